@@ -1,3 +1,5 @@
+ghost use Rattle.std.specs.declared.option.Option.the-variants.{Some};
+ghost use Rattle.rows.specs.Runs.{run-text};
 use std::fmt;
 
 // Neighbouring values, from low to high, both ends included.
@@ -9,6 +11,8 @@ pub struct Run {
 
 // A run of one value is written as the value, any other as its ends with a hyphen between.
 pub impl fmt::Display for Run as RunDisplay {
+    ghost shown = { λ run. Some (run-text run) };
+
     fn fmt<W: fmt::Write>(&self, f: &mut fmt::Formatter<W>) -> fmt::Result {
         let low = self.low;
         let high = self.high;
