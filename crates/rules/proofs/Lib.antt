@@ -1,0 +1,14 @@
+pub mod Appended
+pub mod Decided
+pub mod Deciding
+pub mod Extend
+pub mod Fields
+pub mod Labels
+pub mod Lists
+pub mod Loops
+pub mod Losing
+pub mod Noting
+pub mod RowSets
+pub mod Telling
+pub mod Walks
+pub mod WrittenBack

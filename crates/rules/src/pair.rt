@@ -1,0 +1,6 @@
+// What a joined book is made of.
+#[derive(Clone, Copy)]
+pub struct Joined<A, B> {
+    pub first: A,
+    pub second: B,
+}
