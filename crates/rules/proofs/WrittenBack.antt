@@ -11,17 +11,11 @@ use Rattle.std.specs.Orderings.{Decides}
 use Rattle.std.proofs.shelf.Tests.{cases-bool, cases-eq, both-ways, false≢true, or-cases, or-left, or-right}
 use Rattle.rows.specs.Values.{Values}
 use Rattle.rules.specs.Books.{sets, Loses, Changed, Narrowing}
+use Rattle.rules.specs.Writes.{Written}
 use Rattle.rules.specs.Rules.{Sets, Rule, In, Distinct, Supported}
 use Rattle.rules.proofs.Fields.{front-more, front-old, front-new, front-apart, in-front}
 use Rattle.rules.proofs.Lists.{find}
 use Rattle.rules.proofs.RowSets.{sets-same, sets-written}
-
--- the first i fields of the scope have their new sets, every other field has its record, and `changed` says whether one of those i lost a value
-pub record Written {R : Type 0} (values : R → Values) (new : Sets) (scope : List ℕ) (i : ℕ) (before after : List R) (changed : Bool) : Type 0 where
-  pub long : length after ≡ length before
-  pub done : (f v : ℕ) → In f (take i scope) → sets values after f v ≡ new f v
-  pub others : (f : ℕ) (d : R) → (In f (take i scope) → ⊥) → getD after f d ≡ getD before f d
-  pub answer : Decides changed ((f : ℕ) × In f (take i scope) × Loses values before f (new f))
 
 module _ {R : Type 0} (values : R → Values) (new : Sets) (scope : List ℕ) (before : List R) where
   -- nothing is written yet

@@ -4,3 +4,4 @@ pub mod Rules
 pub mod Seen
 pub mod Theorems
 pub mod Tree
+pub mod Writes

@@ -1,12 +1,16 @@
-// One commissioning task, on rows alone: which log rates can a pitch controller still run with?
-// The controller type offers some, the storage at the site allows some, and the site rules out two
-// more. Each step is told in words, once in each kind of row.
+// One commissioning task, told step by step, once in each kind of row: which log rates can a pitch
+// controller still run with, and do its tasks fit into their frame?
 use bits::BitsOrderedRow;
 use bits::BitsRow;
 use bits::record::Bits;
+use frames::FramesBook;
+use frames::record::Frame;
+use frames::record::Frames;
+use frames::record::Part;
 use rows::OrderedRow;
 use rows::listing::next_run;
 use rows::run::RunDisplay;
+use rules::Book;
 use runs::RunsOrderedRow;
 use runs::RunsRow;
 use runs::record::Runs;
@@ -28,15 +32,16 @@ fn listed<R: OrderedRow>(heap: Global, row: R) -> Result<String, AllocError> {
     Ok(text)
 }
 
-// One line: what the step was, and the rates that it leaves open.
+// One line: what the step was, and the values that it leaves open.
 fn told<R: OrderedRow>(rt: &LibcRuntime, step: &str, row: R) -> io::Result<()> {
     let count = row.size();
     let values = listed(rt.alloc(), row)?;
     println!(rt, "{step}: {values} ({count} in all)")
 }
 
-// The task, in one kind of row.
-fn log_rates<R: OrderedRow>(rt: &LibcRuntime) -> io::Result<()> {
+// The log rates: those that the controller type offers, that the storage allows, and that the site
+// has not struck.
+fn log_rates<R: OrderedRow>(rt: &LibcRuntime) -> io::Result<R> {
     let offered = R::make(3, 60);
     told(rt, "rates that the controller type offers", offered)?;
     let allowed = R::make(0, 12);
@@ -48,12 +53,49 @@ fn log_rates<R: OrderedRow>(rt: &LibcRuntime) -> io::Result<()> {
     if let (Some(least), Some(greatest)) = (struck.least(), struck.greatest()) {
         println!(rt, "slowest {least}, fastest {greatest}")?;
     }
+    Ok(struck)
+}
+
+// The frame: a blade loop and the logging task, each with its loading, in a frame of 40.
+fn frame_of_tasks<R: OrderedRow>(rt: &LibcRuntime, logging: R) -> io::Result<()> {
+    let frames = [Frame {
+        first: 0,
+        count: 2,
+        limit: 40,
+    }];
+    let parts = [Part { field: 0, load: 5 }, Part { field: 1, load: 2 }];
+    let book = Frames {
+        frames: &frames,
+        parts: &parts,
+    };
+    let blade = R::make(25, 45);
+    told(rt, "times that the blade loop may take", blade)?;
+    let mut rows = Vec::new(rt.alloc());
+    rows.push(blade)?;
+    rows.push(logging)?;
+    match book.narrow(0, 2, rows.as_mut_slice()) {
+        Ok(true) => println!(rt, "the frame of 40 takes times away")?,
+        Ok(false) => println!(rt, "the frame of 40 takes nothing away")?,
+        Err(_) => println!(rt, "the frame does not fit the sheet")?,
+    }
+    for row in rows.as_slice() {
+        told(rt, "a task that still fits", *row)?;
+    }
     Ok(())
 }
 
+// The whole task, in one kind of row.
+fn commission<R: OrderedRow>(rt: &LibcRuntime) -> io::Result<()> {
+    let logging = log_rates::<R>(rt)?;
+    frame_of_tasks(rt, logging)
+}
+
 fn main(rt: LibcRuntime) -> io::Result<()> {
-    println!(rt, "The log rates of a pitch controller, kept as bits")?;
-    log_rates::<Bits>(&rt)?;
-    println!(rt, "The same task, kept as runs")?;
-    log_rates::<Runs>(&rt)
+    println!(
+        rt,
+        "Commissioning a pitch controller, its rows kept as bits"
+    )?;
+    commission::<Bits>(&rt)?;
+    println!(rt, "The same task, its rows kept as runs")?;
+    commission::<Runs>(&rt)
 }
