@@ -4,3 +4,5 @@
 mod frames_test;
 #[cfg(test)]
 mod small;
+#[cfg(test)]
+mod tables_test;

@@ -3,6 +3,7 @@ pub mod Decided
 pub mod Deciding
 pub mod Extend
 pub mod Fields
+pub mod Given
 pub mod Labels
 pub mod Lists
 pub mod Loops

@@ -1,7 +1,7 @@
 -- Rows written back field by field come to a narrowing. Assumes nothing.
 use mathlib.Core.Path.{_≡_, refl, sym, ap, subst, _∙_}
 use mathlib.Core.Bool.{Bool, true, false, not, _||_}
-use mathlib.Core.List.{List, [], _∷_}
+use mathlib.Core.List.{List, [], _∷_, _++_}
 use mathlib.Core.Logic.{_⊎_, inl, inr, ⊎-elim}
 use Prim.Native.Nat.{ℕ, zero, _+_, _<_}
 use native.Mathlib.Omega.{arith}
@@ -120,3 +120,136 @@ module _ {R : Type 0} (values : R → Values) (new : Sets) (scope : List ℕ) (b
               let s = left f v h b in
               absurd (both-ways (sets values before f v) a (subst (λ u. sets values before f u ≡ true) (s .gives) (s .inside f (subst (In f) (sym same) h))))
           go (inr a) (inr b) = absurd (differs (w .done f v (all f h) ∙ b ∙ sym a))
+
+-- ---- writes to one list of fields, then to another
+
+-- a list is its own front
+all-in : (xs : List ℕ) (f : ℕ) → In f xs → In f (take (length xs) xs)
+all-in xs f = subst (In f) (sym (take-all (length xs) xs (omega arith)))
+
+all-from : (xs : List ℕ) (f : ℕ) → In f (take (length xs) xs) → In f xs
+all-from xs f = in-front xs (length xs) f
+
+-- a field of two lists is in one of them
+pub in-either : (xs ys : List ℕ) (f : ℕ) → In f (xs ++ ys) → In f xs ⊎ In f ys
+in-either [] ys f h = inr h
+in-either (x ∷ xs) ys f (inl e) = inl (inl e)
+in-either (x ∷ xs) ys f (inr h) = ⊎-elim (λ k. inl (inr k)) (λ k. inr k) (in-either xs ys f h)
+
+pub in-first : (xs ys : List ℕ) (f : ℕ) → In f xs → In f (xs ++ ys)
+in-first [] ys f h = absurd h
+in-first (x ∷ xs) ys f (inl e) = inl e
+in-first (x ∷ xs) ys f (inr h) = inr (in-first xs ys f h)
+
+pub in-second : (xs ys : List ℕ) (f : ℕ) → In f ys → In f (xs ++ ys)
+in-second [] ys f h = h
+in-second (x ∷ xs) ys f h = inr (in-second xs ys f h)
+
+-- where no field stands twice in two lists, they share none
+pub halves-apart : (xs ys : List ℕ) → Distinct (xs ++ ys) → (f : ℕ) → In f xs → In f ys → ⊥
+halves-apart [] ys apart f h k = h
+halves-apart (x ∷ xs) ys apart f (inl e) k = apart .0 (in-second xs ys x (subst (λ u. In u ys) e k))
+halves-apart (x ∷ xs) ys apart f (inr h) k = halves-apart xs ys (apart .1) f h k
+
+-- nor does one stand twice in the first
+pub first-distinct : (xs ys : List ℕ) → Distinct (xs ++ ys) → Distinct xs
+first-distinct [] ys apart = tt
+first-distinct (x ∷ xs) ys apart = (λ k. apart .0 (in-first xs ys x k), first-distinct xs ys (apart .1))
+
+-- or in the second
+pub second-distinct : (xs ys : List ℕ) → Distinct (xs ++ ys) → Distinct ys
+second-distinct [] ys apart = apart
+second-distinct (x ∷ xs) ys apart = second-distinct xs ys (apart .1)
+
+module _ {R : Type 0} (values : R → Values) where
+  -- the fields of a list that is written have their new sets
+  pub now-new : (new : Sets) (xs : List ℕ) (before after : List R) (changed : Bool) → Written values new xs (length xs) before after changed
+      → (f v : ℕ) → In f xs → sets values after f v ≡ new f v
+  now-new new xs before after changed w f v h = w .done f v (all-in xs f h)
+
+  -- and the others keep theirs
+  pub still-old : (new : Sets) (xs : List ℕ) (before after : List R) (changed : Bool) → Written values new xs (length xs) before after changed
+      → (f v : ℕ) → (In f xs → ⊥) → sets values after f v ≡ sets values before f v
+  still-old new xs before after changed w f v h = sets-same values before after f (w .long) (λ d. w .others f d (λ k. h (all-from xs f k))) v
+
+  -- one field gets its new row
+  pub one-written : (new : Sets) (f : ℕ) (row : R) (before after : List R) (lost : Bool) → f < length before → ((v : ℕ) → values row v ≡ new f v)
+      → after ≡ set before f row → Decides lost (Loses values before f (values row)) → Written values new (f ∷ []) 1 before after lost
+  one-written new f row before after lost below reads is loss =
+      subst (λ rows. Written values new (f ∷ []) 1 before rows lost) (sym is)
+      (more-written values new (f ∷ []) before 0 before false lost row (omega arith) (λ k. k, tt) below (none-written values new (f ∷ []) before) reads loss)
+
+  -- sets that agree on the list are written alike
+  pub written-same : (new other : Sets) (xs : List ℕ) (before after : List R) (changed : Bool) → ((f v : ℕ) → In f xs → new f v ≡ other f v)
+      → Written values new xs (length xs) before after changed → Written values other xs (length xs) before after changed
+  written-same new other xs before after changed same w = record {
+    long = w .long;
+    done = λ f v h. w .done f v h ∙ same f v (all-from xs f h);
+    others = w .others;
+    answer = (
+      λ e. let k = w .answer .0 e in (k .0, k .1, (k .2 .0, k .2 .1, sym (same (k .0) (k .2 .0) (all-from xs (k .0) (k .1))) ∙ k .2 .2)),
+      λ k. w .answer .1 (k .0, k .1, (k .2 .0, k .2 .1, same (k .0) (k .2 .0) (all-from xs (k .0) (k .1)) ∙ k .2 .2)),
+    );
+  }
+
+  -- one list is written, then another that shares no field with it
+  pub written-append : (new : Sets) (xs ys : List ℕ) (before between after : List R) (first second : Bool) → ((f : ℕ) → In f xs → In f ys → ⊥)
+      → Written values new xs (length xs) before between first → Written values new ys (length ys) between after second
+      → Written values new (xs ++ ys) (length (xs ++ ys)) before after (first || second)
+  written-append new xs ys before between after first second apart w u = record {
+    long = u .long ∙ w .long;
+    done = λ f v h. ⊎-elim
+        (λ k. still-old new ys between after second u f v (apart f k) ∙ now-new new xs before between first w f v k)
+        (λ k. now-new new ys between after second u f v k)
+        (in-either xs ys f (all-from (xs ++ ys) f h));
+    others = λ f d h.
+        u .others f d (λ k. h (all-in (xs ++ ys) f (in-second xs ys f (all-from ys f k))))
+        ∙ w .others f d (λ k. h (all-in (xs ++ ys) f (in-first xs ys f (all-from xs f k))));
+    answer = (
+      λ e. ⊎-elim
+          (λ a. let k = w .answer .0 a in (k .0, all-in (xs ++ ys) (k .0) (in-first xs ys (k .0) (all-from xs (k .0) (k .1))), k .2))
+          (λ b. let k = u .answer .0 b in
+          let at = all-from ys (k .0) (k .1) in (
+            k .0,
+            all-in (xs ++ ys) (k .0) (in-second xs ys (k .0) at),
+            (k .2 .0, sym (still-old new xs before between first w (k .0) (k .2 .0) (λ h. apart (k .0) h at)) ∙ k .2 .1, k .2 .2),
+          ))
+          (or-cases first second e),
+      λ k. ⊎-elim
+          (λ h. or-left first second (w .answer .1 (k .0, all-in xs (k .0) h, k .2)))
+          (λ h. or-right first second (u .answer .1 (
+            k .0,
+            all-in ys (k .0) h,
+            (k .2 .0, still-old new xs before between first w (k .0) (k .2 .0) (λ g. apart (k .0) g h) ∙ k .2 .1, k .2 .2),
+          )))
+          (in-either xs ys (k .0) (all-from (xs ++ ys) (k .0) (k .1))),
+    );
+  }
+
+  -- fields that are not written, and are to keep their sets, may be counted as written
+  pub written-wider : (new : Sets) (xs ys : List ℕ) (before after : List R) (changed : Bool) → ((f : ℕ) → In f xs → In f ys)
+      → ((f v : ℕ) → In f ys → (In f xs → ⊥) → new f v ≡ sets values before f v)
+      → Written values new xs (length xs) before after changed → Written values new ys (length ys) before after changed
+  written-wider new xs ys before after changed into keeps w = record {
+    long = w .long;
+    done = λ f v h. ⊎-elim
+        (λ t. now-new new xs before after changed w f v (subst (λ x. In x xs) (t .2) (t .1)))
+        (λ none. still-old new xs before after changed w f v (λ k. none f k refl) ∙ sym (keeps f v (all-from ys f h) (λ k. none f k refl)))
+        (find (λ x. x) f xs);
+    others = λ f d h. w .others f d (λ k. h (all-in ys f (into f (all-from xs f k))));
+    answer = (
+      λ e. let k = w .answer .0 e in (k .0, all-in ys (k .0) (into (k .0) (all-from xs (k .0) (k .1))), k .2),
+      λ k. ⊎-elim
+          (λ t. w .answer .1 (k .0, all-in xs (k .0) (subst (λ x. In x xs) (t .2) (t .1)), k .2))
+          (λ none. absurd (both-ways (sets values before (k .0) (k .2 .0)) (sym (keeps (k .0) (k .2 .0) (all-from ys (k .0) (k .1)) (λ h. none (k .0) h refl)) ∙ k .2 .2) (k .2 .1)))
+          (find (λ x. x) (k .0) xs),
+    );
+  }
+
+  -- some of the scope is written, and the rest is to keep its sets
+  pub some-written : (new : Sets) (scope : List ℕ) (before : List R) (r : Rule) (after : List R) (changed : Bool) → ((f : ℕ) → In f scope → In f (r .scope))
+      → ((f v : ℕ) → In f (r .scope) → (In f scope → ⊥) → new f v ≡ sets values before f v) → Written values new scope (length scope) before after changed
+      → ((f v : ℕ) → In f (r .scope) → new f v ≡ true → Supported (sets values before) r f v) → ((f v : ℕ) → In f (r .scope) → Supported (sets values before) r f v → new f v ≡ true)
+      → Narrowing values r before after changed
+  some-written new scope before r after changed into keeps w =
+      all-written values new (r .scope) before r after changed refl (written-wider new scope (r .scope) before after changed into keeps w)

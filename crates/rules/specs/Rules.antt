@@ -1,10 +1,11 @@
 -- What rules mean: scopes, allowed lines, settings and standing choices.
 -- Assumes nothing.
 use mathlib.Core.Path.{_≡_}
-use mathlib.Core.Bool.{Bool, true, false}
+use mathlib.Core.Bool.{Bool, true, cond}
 use mathlib.Core.List.{List, [], _∷_, map}
 use mathlib.Core.Logic.{_⊎_}
 use Prim.Native.Nat.{ℕ, _<_, _≤_}
+use lib.Dec.{eqb}
 use lib.ListN.{length}
 use Rattle.rows.specs.Values.{Values}
 
@@ -80,3 +81,13 @@ pub record Standing (n : ℕ) (rules : List Rule) (C : Sets) : Type 0 where
 -- of the first n fields, C has only values of S
 abbrev pub Within : ℕ → Sets → Sets → Type 0
 Within n C S = (f v : ℕ) → f < n → C f v ≡ true → S f v ≡ true
+
+-- the value that a line of a scope gives a field: that of its first place
+abbrev pub given : List ℕ → List ℕ → ℕ → ℕ
+given [] line f = 0
+given (g ∷ gs) [] f = 0
+given (g ∷ gs) (v ∷ vs) f = cond (eqb f g) v (given gs vs f)
+
+-- a rule told by a test on what a line gives the fields of its scope
+abbrev pub by-test : List ℕ → ((ℕ → ℕ) → Bool) → Rule
+by-test scope test = record { scope = scope; allows = λ line. test (given scope line) }

@@ -1,5 +1,6 @@
 // One commissioning task, told step by step, once in each kind of row: which log rates can a pitch
-// controller still run with, and do its tasks fit into their frame?
+// controller still run with, which filter orders give one of them, and do the tasks fit into their
+// frame?
 use bits::BitsOrderedRow;
 use bits::BitsRow;
 use bits::record::Bits;
@@ -17,6 +18,11 @@ use runs::record::Runs;
 use std::alloc::AllocError;
 use std::alloc::Global;
 use std::io;
+use tables::book::TablesBook;
+use tables::record::Axis;
+use tables::record::Cell;
+use tables::record::Head;
+use tables::record::Tables;
 
 // The values of a row as runs, as `3-7 12`.
 fn listed<R: OrderedRow>(heap: Global, row: R) -> Result<String, AllocError> {
@@ -56,6 +62,50 @@ fn log_rates<R: OrderedRow>(rt: &LibcRuntime) -> io::Result<R> {
     Ok(struck)
 }
 
+// The table: the time of the logging task is looked up from the filter order.
+fn time_of_logging<R: OrderedRow>(rt: &LibcRuntime, rates: R) -> io::Result<R> {
+    let order = Axis {
+        field: 1,
+        extent: 4,
+    };
+    let heads = [Head {
+        x: 0,
+        axes: [order, order, order, order],
+        axis_count: 1,
+        first: 0,
+    }];
+    let cells = [
+        Cell::Constant(4),
+        Cell::Constant(8),
+        Cell::Constant(10),
+        Cell::Constant(40),
+    ];
+    let book = Tables {
+        heads: &heads,
+        cells: &cells,
+    };
+    let orders = R::make(0, 9);
+    told(
+        rt,
+        "filter orders, of which a table gives four their logging rate",
+        orders,
+    )?;
+    let mut rows = Vec::new(rt.alloc());
+    rows.push(rates)?;
+    rows.push(orders)?;
+    match book.narrow(0, 2, rows.as_mut_slice()) {
+        Ok(true) => println!(rt, "the table takes values away")?,
+        Ok(false) => println!(rt, "the table takes nothing away")?,
+        Err(_) => println!(rt, "the table does not fit the sheet")?,
+    }
+    let mut left = rates;
+    for row in rows.as_slice().iter().rev() {
+        told(rt, "what the table leaves", *row)?;
+        left = *row;
+    }
+    Ok(left)
+}
+
 // The frame: a blade loop and the logging task, each with its loading, in a frame of 40.
 fn frame_of_tasks<R: OrderedRow>(rt: &LibcRuntime, logging: R) -> io::Result<()> {
     let frames = [Frame {
@@ -86,7 +136,8 @@ fn frame_of_tasks<R: OrderedRow>(rt: &LibcRuntime, logging: R) -> io::Result<()>
 
 // The whole task, in one kind of row.
 fn commission<R: OrderedRow>(rt: &LibcRuntime) -> io::Result<()> {
-    let logging = log_rates::<R>(rt)?;
+    let rates = log_rates::<R>(rt)?;
+    let logging = time_of_logging(rt, rates)?;
     frame_of_tasks(rt, logging)
 }
 

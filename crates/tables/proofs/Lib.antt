@@ -1,0 +1,14 @@
+pub mod Blocks
+pub mod Closing
+pub mod Cutting
+pub mod Exact
+pub mod Fitting
+pub mod LeftExact
+pub mod Levels
+pub mod Lines
+pub mod NewFields
+pub mod Picking
+pub mod Sweeping
+pub mod TableAt
+pub mod ViewSteps
+pub mod Writes

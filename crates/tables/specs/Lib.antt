@@ -1,0 +1,5 @@
+pub mod Closure
+pub mod Left
+pub mod Reads
+pub mod Scans
+pub mod Views
