@@ -1,4 +1,6 @@
 // Tables as a book of rules.
+ghost use Rattle.rules.specs.Books.{Narrows, rule-at, sets};
+ghost use Rattle.tables.specs.Closure.{Closes};
 ghost use Rattle.tables.specs.Reads.{table-rules};
 use crate::narrowing::narrow_table;
 use crate::reading::is_lawful;
@@ -22,7 +24,12 @@ pub impl<'a, R: Row> Book<R> for Tables<'a> as TablesBook {
         self.field(k, place)
     }
 
-    fn narrow(&self, k: usize, n: usize, rows: &mut [R]) -> Result<bool, NarrowFault> {
+    // Besides what every book promises: where an allowed line exists, the rows that are left are
+    // closed under the three rules for array constraints.
+    fn narrow(&self, k: usize, n: usize, rows: &mut [R]) -> Result<bool, NarrowFault>
+        ensures narrows { λ r. ⌜ Narrows (R·Row .values) (rule-at (table-rules (now (self .entry))) k) k n (now (rows .entry)) (now (rows .exit)) r ⌝ }
+        ensures closed { λ r. ⌜ Closes (rule-at (table-rules (now (self .entry))) k) (sets (R·Row .values) (now (rows .entry))) (sets (R·Row .values) (now (rows .exit))) r ⌝ }
+    {
         let Some(table) = self.table(k) else {
             return Err(NarrowFault::Unfit);
         };

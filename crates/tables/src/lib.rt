@@ -4,7 +4,6 @@
 // support, and whether none, one or several cells can still be selected; the rows are then cut to
 // what has support.
 pub mod book;
-pub mod closure;
 mod found;
 mod narrowing;
 mod reading;
