@@ -5,10 +5,10 @@ use std::alloc::Global;
 use std::test::*;
 
 // The values of some small rows, a bit for each.
-pub const SHAPES: [u8; 6] = [0, 0b1, 0b1000_0000, 0b0101_0010, 0b1111_1111, 0b0011_1100];
+pub(crate) const SHAPES: [u8; 6] = [0, 0b1, 0b1000_0000, 0b0101_0010, 0b1111_1111, 0b0011_1100];
 
 // The row of the values that a shape has.
-pub fn row_of<R: Row>(shape: u8) -> R {
+pub(crate) fn row_of<R: Row>(shape: u8) -> R {
     let mut row = R::make(0, 7);
     for v in 0..8u8 {
         if shape >> v & 1 == 0 {
@@ -19,7 +19,7 @@ pub fn row_of<R: Row>(shape: u8) -> R {
 }
 
 // Rows of three shapes.
-pub fn rows_of<R: Row>(heap: Global, shapes: [u8; 3]) -> Result<Vec<R>, AllocError> {
+pub(crate) fn rows_of<R: Row>(heap: Global, shapes: [u8; 3]) -> Result<Vec<R>, AllocError> {
     let mut rows = Vec::new(heap);
     for shape in shapes {
         rows.push(row_of::<R>(shape))?;
@@ -28,7 +28,7 @@ pub fn rows_of<R: Row>(heap: Global, shapes: [u8; 3]) -> Result<Vec<R>, AllocErr
 }
 
 // How many values the rows have in all.
-pub fn total<R: Row>(rows: &[R]) -> usize {
+pub(crate) fn total<R: Row>(rows: &[R]) -> usize {
     let mut count = 0usize;
     for row in rows {
         count = count.saturating_add(row.size());
@@ -38,19 +38,19 @@ pub fn total<R: Row>(rows: &[R]) -> usize {
 
 // The values that stand in some allowed line.
 #[derive(Clone, Copy)]
-pub struct Listed {
+pub(crate) struct Listed {
     pub left: [[bool; 8]; 3],
 }
 
 impl Listed {
-    pub fn none() -> Listed {
+    pub(crate) fn none() -> Listed {
         Listed {
             left: [[false; 8]; 3],
         }
     }
 
     // One allowed line.
-    pub fn allow(self, a: u8, b: u8, c: u8) -> Listed {
+    pub(crate) fn allow(self, a: u8, b: u8, c: u8) -> Listed {
         let Listed {
             left: [mut x, mut y, mut z],
         } = self;
@@ -62,7 +62,7 @@ impl Listed {
 }
 
 // The rows have just the listed values.
-pub fn holds<R: Row>(rows: &[R], listed: &Listed) -> Result<(), Fail> {
+pub(crate) fn holds<R: Row>(rows: &[R], listed: &Listed) -> Result<(), Fail> {
     check(rows.len() == 3)?;
     for f in 0..3usize {
         for v in 0..8usize {
