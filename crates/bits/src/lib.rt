@@ -1,4 +1,6 @@
 // Rows of up to 256 values as bit sets. Every call works on whole words.
+#![tactic(auto)]
+
 ghost use Rattle.std.specs.Prelude.{◌&&◌, nat_lt};
 ghost use Rattle.rows.specs.Values.{Same, either, Least};
 ghost use Rattle.bits.specs.Reads.{bits_have};

@@ -1,5 +1,7 @@
 // Drafts: fields, tables, cells and frames are entered one by one, and what is wrong with an entry
 // is told before anything changes.
+#![tactic(auto)]
+
 mod book;
 mod cells;
 pub mod fault;

@@ -1,5 +1,7 @@
 // Tests of drafts: every refusal of every entry, alone and beside others, in every kind; the limits;
 // what an accepted entry writes; and what the own book of a draft tells.
+#![tactic(auto)]
+
 #[cfg(test)]
 mod book_test;
 #[cfg(test)]

@@ -2,6 +2,8 @@
 //
 // The values of a part that can still run are those that fit beside the least values of all the
 // others, so one pass over the parts finds the room that is left, and one cuts each row to it.
+#![tactic(auto)]
+
 ghost use Rattle.std.specs.Prelude.{◌≡◌, ℕ, ◌≤◌, length, Decides, MatchOption, slice_index_or};
 ghost use Rattle.rules.specs.Writes.{Written};
 ghost use Rattle.rules.specs.Books.{sets};

@@ -1,5 +1,7 @@
 // How long a narrowing takes, as a multiple of the time to walk the same cells or parts and do
 // nothing with them. The figures go to standard error, since they differ from run to run.
+#![tactic(auto)]
+
 use bits::record::Bits;
 use frames::record::{Frame, Frames, Part};
 use rows::{OrderedRow, Row};

@@ -1,5 +1,7 @@
 // Tests of rows. Every kind is driven through the same functions, and so is a kind written outside
 // the planner, which has only what a kind must have.
+#![tactic(auto)]
+
 ghost use Rattle.row_tests.specs.Reads.{switch_has};
 ghost use Rattle.std.proofs.Common.{rules};
 

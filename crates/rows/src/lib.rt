@@ -2,6 +2,8 @@
 //
 // `Row` says what every kind of row does, by the set that a record reads as. Every record of a
 // kind reads as some set, so no call asks anything of the records that it is given.
+#![tactic(auto)]
+
 ghost use Rattle.std.specs.Prelude.{◌≡◌, ℕ, ◌<◌, ◌≤◌, Bool, true, false, Decides};
 ghost use Rattle.rows.specs.Values.{Values, Same, from_to, without, both, less, up_to, Empty, Meet, how_many, Least, Greatest};
 

@@ -3,6 +3,8 @@
 // A book is anything that holds a list of rules and can narrow rows by each. `Book` says what that
 // means, by the list of rules that a book stands for, so that whatever is built over books is
 // proved once, also for a book that is written outside the planner.
+#![tactic(auto)]
+
 ghost use Rattle.std.specs.Prelude.{◌≡◌, List};
 ghost use Rattle.rules.specs.Books.{rule_at, told_count, told_size, told_field, Narrows};
 ghost use Rattle.rules.specs.Rules.{Rule};

@@ -2,6 +2,8 @@
 //
 // A list may name its values in any order, and a value more than once. So each call reads the list
 // into a bit set, works there, and writes what is left as runs in order.
+#![tactic(auto)]
+
 ghost use Rattle.rows.specs.Values.{Same, up_to};
 ghost use Rattle.bits.specs.Reads.{bits_have};
 ghost use Rattle.runs.specs.Reads.{runs_have};

@@ -2,6 +2,8 @@
 //
 // All of it is generic over the kind of row and the book. What is left is the largest standing
 // choice within the rows given, and without a ring exactly the values of full settings.
+#![tactic(auto)]
+
 mod labelling;
 mod labels;
 pub mod outcome;

@@ -1,6 +1,8 @@
 // One commissioning task, entered as a sheet and settled, once in each kind of row: what is left of the
 // logging times, of the filter orders that they are looked up from, and of the blade loop? And a sheet
 // of parities, which no setting meets though each of its rules alone allows every value.
+#![tactic(auto)]
+
 use bits::record::Bits;
 use draft::fault::{DraftFault, Refused};
 use draft::memory::{Memory, Range};

@@ -1,4 +1,6 @@
 // Working a sheet: strikes, pins, caps, marks, backs and settles, and the law about all of them.
+#![tactic(auto)]
+
 pub mod answer;
 pub mod call;
 mod calls;

@@ -1,6 +1,8 @@
 // One commissioning task, told step by step, once in each kind of row: which log rates can a pitch
 // controller still run with, which filter orders give one of them, and do the tasks fit into their
 // frame?
+#![tactic(auto)]
+
 use bits::record::Bits;
 use frames::record::{Frame, Frames, Part};
 use rows::listing::next_run;

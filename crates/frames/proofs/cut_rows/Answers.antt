@@ -6,8 +6,8 @@ use Rattle.frames.proofs.Leasts.{cut_at}
 use Rattle.frames.proofs.PartByPart.{part_at, field_in, not_yet, part_written}
 use Rattle.frames.proofs.cut_rows.Goals as goal
 
-pub offset-bounds-rows-part : goal.offset-bounds-rows-part
-offset-bounds-rows-part g c =
+pub offset_bounds-rows-part : goal.offset_bounds-rows-part
+offset_bounds-rows-part g c =
     let below = c.requires.below _ (field_in c.args.parts.now c.loop-part.part-index c.loop-part-test.true) in
     search rules
 
@@ -26,10 +26,10 @@ loop-part-preserved g c =
     let row = c.index-rows-part.result in
     let inside : (part_at parts i).field < length after = omega (arith, c.requires.below _ (field_in parts i within)) in
     part_written parts i within values (cut (sets values before) c.args.room) before after c.loop-part.changed c.requires c.loop-part.invariant
-    c.replace-changed.new.rows c.replace-changed.result c.at-most.result
-    (λ v. c.at-most.ensures v ∙ cut_at (values row) (sets values before (part_at parts i).field) c.least.result c.args.room c.saturating-add-top.result
+    c.replace-changed.new.rows c.replace-changed.result c.at_most.result
+    (λ v. c.at_most.ensures v ∙ cut_at (values row) (sets values before (part_at parts i).field) c.least.result c.args.room c.saturating_add-top.result
     (λ u. sym (not_yet parts i within values (cut (sets values before) c.args.room) before after c.loop-part.changed c.requires c.loop-part.invariant u) ∙ sets_at values after _ row inside c.index-rows-part.is u)
     c.least.ensures
     (λ u h. omega (arith, g.met.R.Row.inside row u h, g.met.R.Row.small))
-    (c.saturating-add-top.ensures ∙ ap₂ (λ a b. min (a + b) 255) c.unwrap-or.ensures c.min-step.ensures) v)
+    (c.saturating_add-top.ensures ∙ ap₂ (λ a b. min (a + b) 255) c.unwrap_or.ensures c.min-step.ensures) v)
     c.replace-changed.ensures.after c.replace-changed.ensures.lost

@@ -2,4 +2,4 @@ use Rattle.draft.proofs.Noting.{noted_distinct}
 use Rattle.draft.proofs.frames.parts_are_apart.Goals as goal
 
 pub returns : goal.returns
-returns c = noted_distinct _ c.none-seen.result c.note-named.new.seen c.none-seen.ensures c.note-named.result c.note-named.ensures
+returns c = noted_distinct _ c.none-seen.result c.note_named.new.seen c.none-seen.ensures c.note_named.result c.note_named.ensures

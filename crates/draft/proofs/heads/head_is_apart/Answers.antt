@@ -5,8 +5,8 @@ use Rattle.draft.proofs.heads.head_is_apart.Goals as goal
 
 pub returns-then-note : goal.returns-then-note
 returns-then-note c =
-    noted_distinct _ c.none-seen.result c.note-named.new.seen c.none-seen.ensures c.note-named.result
-    (field_noted c.args.x c.none-seen.result c.note.new.self c.note.result c.note.ensures.new c.note.ensures.noted _ c.if-note.true c.note-named.new.seen c.note-named.result c.note-named.ensures)
+    noted_distinct _ c.none-seen.result c.note_named.new.seen c.none-seen.ensures c.note_named.result
+    (field_noted c.args.x c.none-seen.result c.note.new.self c.note.result c.note.ensures.new c.note.ensures.noted _ c.if-note.true c.note_named.new.seen c.note_named.result c.note_named.ensures)
 
 -- where nothing has been met, x is new
 pub returns-else-note : goal.returns-else-note

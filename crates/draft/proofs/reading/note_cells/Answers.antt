@@ -6,7 +6,7 @@ use Rattle.draft.proofs.CellSteps.{constant_next, field_next}
 use Rattle.draft.proofs.Noting.{nothing_noted, field_noted, field_old}
 use Rattle.draft.proofs.PairSteps.{drop_none}
 use Rattle.draft.proofs.reading.note_cells.Goals as goal
-use Rattle.draft.proofs.reading.note_cells.Goals.{in-Field+else-not-note, in-default}
+use Rattle.draft.proofs.reading.note_cells.Goals.{in-Field+else-not-note, in_default}
 
 pub loop-cell-init : goal.loop-cell-init
 loop-cell-init c after new notes = subst (λ cells. NotesNew (cell_fields cells) c.args.seen.now after new) (drop_none c.args.cells.now) notes
@@ -24,8 +24,8 @@ loop-cell-preserved c after new notes =
           subst (λ fs. NotesNew fs seen after new) (sym (field_next cells i within w.in-Field.field w.in-Field.is))
           (field_noted w.in-Field.field seen w.note.new.self w.note.result w.note.ensures.new w.note.ensures.noted rest w.if-not-note.false after new
           (subst (λ s. NotesNew rest s after new) w.seen-is notes))
-      | in-default w ↦
-          subst (λ fs. NotesNew fs seen after new) (sym (constant_next cells i within w.in-default.not-Field))
+      | in_default w ↦
+          subst (λ fs. NotesNew fs seen after new) (sym (constant_next cells i within w.in_default.not-Field))
           (subst (λ s. NotesNew rest s after new) w.seen-is notes)
     ])
 

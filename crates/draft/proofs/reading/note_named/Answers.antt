@@ -4,7 +4,7 @@ use Rattle.draft.specs.Reading.{IsNamed, NotesNew}
 use Rattle.draft.proofs.Noting.{nothing_noted, field_noted, field_old}
 use Rattle.draft.proofs.PairSteps.{pair_at, drop_none, pairs_over, names_none, names_one}
 use Rattle.draft.proofs.reading.note_named.Goals as goal
-use Rattle.draft.proofs.reading.note_named.Goals.{in-Some+else-not-note, in-default}
+use Rattle.draft.proofs.reading.note_named.Goals.{in-Some+else-not-note, in_default}
 
 pub loop-i-init : goal.loop-i-init
 loop-i-init c after new notes = subst (λ ps. NotesNew (named c.args.naming ps) c.args.seen.now after new) (drop_none (pairs c.args.list.now)) notes
@@ -18,14 +18,14 @@ loop-i-preserved c after new notes =
     let rest = named naming (drop (i + 1) (pairs list)) in
     let seen = c.loop-i.seen in
     c.loop-i.invariant after new
-    (elim c.match-field-named.branch [
+    (elim c.match-field_named.branch [
       | in-Some+else-not-note w ↦
           subst (λ fs. NotesNew fs seen after new) (sym (names_one naming list i within w.in-Some.field w.in-Some.ensures))
           (field_noted w.in-Some.field seen w.note.new.self w.note.result w.note.ensures.new w.note.ensures.noted rest w.if-not-note.false after new
           (subst (λ s. NotesNew rest s after new) w.seen-is notes))
-      | in-default w ↦
-          let none : c.field-named.result ≡ None = cc in
-          subst (λ fs. NotesNew fs seen after new) (sym (names_none naming list i within (subst (IsNamed naming (pair_at list i)) none c.field-named.ensures)))
+      | in_default w ↦
+          let none : c.field_named.result ≡ None = cc in
+          subst (λ fs. NotesNew fs seen after new) (sym (names_none naming list i within (subst (IsNamed naming (pair_at list i)) none c.field_named.ensures)))
           (subst (λ s. NotesNew rest s after new) w.seen-is notes)
     ])
 

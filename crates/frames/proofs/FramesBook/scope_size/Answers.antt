@@ -18,5 +18,5 @@ pub returns : goal.returns
 returns g c =
     let book = c.args.self.now in
     let long = length-map book.frames.now (frame_rule book.parts.now) in
-    let size = ap length c.parts-of.ensures.scope ∙ length-map c.parts-of.result.now (λ p. p.field) in
+    let size = ap length c.parts_of.ensures.scope ∙ length-map c.parts_of.result.now (λ p. p.field) in
     grind (arith, nat_tests)

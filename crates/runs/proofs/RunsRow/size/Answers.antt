@@ -8,5 +8,5 @@ use Rattle.runs.proofs.RunsRow.size.Goals as goal
 pub returns : goal.returns
 returns c =
     let row = c.args.self in
-    c.size.ensures ∙ how_many_same 256 (bits_have c.to-bits.result) (runs_have row) (λ v _. c.to-bits.ensures v)
+    c.size.ensures ∙ how_many_same 256 (bits_have c.to_bits.result) (runs_have row) (λ v _. c.to_bits.ensures v)
     ∙ how_many_wider 128 128 (runs_have row) (λ v h. ap (λ b. b && in_some (take (min row.count 64) row.pairs) v) (le-ltb v 128 h))

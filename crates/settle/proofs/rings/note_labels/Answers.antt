@@ -14,8 +14,8 @@ loop-place-preserved g c =
     let rules = g.B.Book.rules c.args.book.now in
     let long = size_is rules c.args.k c.requires.reach c.requires.lawful in
     let within : c.loop-place.place < length (rule_at rules c.args.k).scope = omega arith in
-    label_more (label_of c.args.labels.now) (rule_at rules c.args.k).scope c.loop-place.met c.note.new.self c.loop-place.place c.scope-field-field.result within
-    (c.scope-field-field.ensures ∙ field_told rules c.args.k c.requires.reach c.requires.lawful c.loop-place.place within)
+    label_more (label_of c.args.labels.now) (rule_at rules c.args.k).scope c.loop-place.met c.note.new.self c.loop-place.place c.scope_field-field.result within
+    (c.scope_field-field.ensures ∙ field_told rules c.args.k c.requires.reach c.requires.lawful c.loop-place.place within)
     (not-true _ (sym c.if-not-note.ensures.new)) c.note.ensures.noted c.loop-place.invariant
 
 pub returns-then-not-note : goal.returns-then-not-note
@@ -26,8 +26,8 @@ returns-then-not-note g c =
     record {
       apart = λ e. absurd (false≢true e);
       noted = λ e. absurd (false≢true e);
-      clash = λ _. label_clash (label_of c.args.labels.now) (rule_at rules c.args.k).scope c.loop-place.met c.loop-place.place c.scope-field-field.result within
-          (c.scope-field-field.ensures ∙ field_told rules c.args.k c.requires.reach c.requires.lawful c.loop-place.place within)
+      clash = λ _. label_clash (label_of c.args.labels.now) (rule_at rules c.args.k).scope c.loop-place.met c.loop-place.place c.scope_field-field.result within
+          (c.scope_field-field.ensures ∙ field_told rules c.args.k c.requires.reach c.requires.lawful c.loop-place.place within)
           (not-false _ (sym c.if-not-note.ensures.new)) c.loop-place.invariant;
     }
 

@@ -10,13 +10,13 @@ use Rattle.settle.proofs.rings.ring_in.Goals as goal
 pub loop-k-init : goal.loop-k-init
 loop-k-init g c =
     let rules = g.B.Book.rules c.args.book.now in
-    let long = counted rules c.rule-count-k.result c.requires.few c.rule-count-k.ensures in
-    labels_start rules c.rule-count-k.result c.apart-labels.result (omega arith) c.apart-labels.ensures
+    let long = counted rules c.rule_count-k.result c.requires.few c.rule_count-k.ensures in
+    labels_start rules c.rule_count-k.result c.apart-labels.result (omega arith) c.apart-labels.ensures
 
 pub join-requires : goal.join-requires
 join-requires g c =
     let rules = g.B.Book.rules c.args.book.now in
-    let long = counted rules c.rule-count-k.result c.requires.few c.rule-count-k.ensures in
+    let long = counted rules c.rule_count-k.result c.requires.few c.rule_count-k.ensures in
     record {
       reach = omega (arith, c.requires.few);
       lawful = place_by_each (LawfulRule 254) rules c.requires.each (c.loop-k.k - 1) (omega arith);
@@ -26,7 +26,7 @@ pub returns-then-not-join : goal.returns-then-not-join
 returns-then-not-join g c = (
   λ _.
       let rules = g.B.Book.rules c.args.book.now in
-      let long = counted rules c.rule-count-k.result c.requires.few c.rule-count-k.ensures in
+      let long = counted rules c.rule_count-k.result c.requires.few c.rule_count-k.ensures in
       clash_ring rules c.requires c.loop-k.k (c.loop-k.k - 1) (omega arith) (omega arith) c.loop-k.labels c.join.new.labels c.loop-k.invariant.0 c.loop-k.invariant.1 c.if-not-join.ensures,
   λ _. refl,
 )
@@ -34,7 +34,7 @@ returns-then-not-join g c = (
 pub loop-k-preserved : goal.loop-k-preserved
 loop-k-preserved g c =
     let rules = g.B.Book.rules c.args.book.now in
-    let long = counted rules c.rule-count-k.result c.requires.few c.rule-count-k.ensures in
+    let long = counted rules c.rule_count-k.result c.requires.few c.rule_count-k.ensures in
     joined_tree rules c.requires c.loop-k.k (c.loop-k.k - 1) (omega arith) (omega arith) c.loop-k.labels c.join.new.labels c.loop-k.invariant.0 c.loop-k.invariant.1 c.if-not-join.ensures
 
 pub returns : goal.returns

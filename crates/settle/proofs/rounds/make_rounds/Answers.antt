@@ -5,28 +5,28 @@ use Rattle.settle.specs.Passes.{Passed}
 use Rattle.settle.proofs.Totals.{total_le}
 use Rattle.settle.proofs.Going.{going_none, passed_less, going_more, going_all, rounded_at_once}
 use Rattle.settle.proofs.rounds.make_rounds.Goals as goal
-use Rattle.settle.proofs.rounds.make_rounds.Goals.{then-not-changed-via-then-not-changed, then-not-changed-via-else-not-changed+then-any-empty-2}
+use Rattle.settle.proofs.rounds.make_rounds.Goals.{then-not-changed-via-then-not-changed, then-not-changed-via-else-not-changed+then-any_empty-2}
 
-pub overflow-add-rounds : goal.overflow-add-rounds
-overflow-add-rounds g c =
+pub overflow_add-rounds : goal.overflow_add-rounds
+overflow_add-rounds g c =
     let R = g.R.Row in
     omega (arith, total_le R.span c.args.n (sets R.values c.args.rows.now) g.met.R.Row.small)
 
 pub returns-then-not-changed : goal.returns-then-not-changed
 returns-then-not-changed g c =
     let R = g.R.Row in
-    let all = going_all R.values R.span _ c.args.n c.args.rows.now c.loop-changed.rounds c.loop-changed.rows c.narrow-all.new.rows c.in-ok-changed.changed
-    (λ some. both_ways _ c.if-any-empty.false (c.any-empty.ensures.1 some))
+    let all = going_all R.values R.span _ c.args.n c.args.rows.now c.loop-changed.rounds c.loop-changed.rows c.narrow_all.new.rows c.in_ok-changed.changed
+    (λ some. both_ways _ c.if-any_empty.false (c.any_empty.ensures.1 some))
     c.loop-changed.invariant
-    c.in-ok-changed.ensures in
+    c.in_ok-changed.ensures in
     elim c.then-not-changed.branch [
       | then-not-changed-via-then-not-changed w ↦ all (inr w.if-not-changed.true)
-      | then-not-changed-via-else-not-changed+then-any-empty-2 w ↦ all (inl (w.any-empty-else-not-changed.ensures.0 w.if-any-empty-2.true))
+      | then-not-changed-via-else-not-changed+then-any_empty-2 w ↦ all (inl (w.any_empty-else-not-changed.ensures.0 w.if-any_empty-2.true))
     ]
 
 -- the round took a value
-passed : (g : _) (c : goal.Else-any-empty-2 g) → Passed g.R.Row.values (g.B.Book.rules c.args.book.now) c.args.n c.loop-changed.rows c.narrow-all.new.rows true
-passed g c = subst (λ b. Passed g.R.Row.values (g.B.Book.rules c.args.book.now) c.args.n c.loop-changed.rows c.narrow-all.new.rows b) c.if-not-changed.false c.in-ok-changed.ensures
+passed : (g : _) (c : goal.Else-any_empty-2 g) → Passed g.R.Row.values (g.B.Book.rules c.args.book.now) c.args.n c.loop-changed.rows c.narrow_all.new.rows true
+passed g c = subst (λ b. Passed g.R.Row.values (g.B.Book.rules c.args.book.now) c.args.n c.loop-changed.rows c.narrow_all.new.rows b) c.if-not-changed.false c.in_ok-changed.ensures
 
 pub loop-changed-smaller : goal.loop-changed-smaller
 loop-changed-smaller g c = passed_less g.R.Row.values g.R.Row.span _ _ c.args.rows.now g.met.R.Row.inside _ _ (passed g c)
@@ -34,10 +34,10 @@ loop-changed-smaller g c = passed_less g.R.Row.values g.R.Row.span _ _ c.args.ro
 pub loop-changed-preserved : goal.loop-changed-preserved
 loop-changed-preserved g c =
     going_more _ _ _ _ _ g.met.R.Row.inside _ _ _ c.loop-changed.invariant (passed g c)
-    (λ some. both_ways _ c.if-any-empty-2.false (c.any-empty-else-not-changed.ensures.1 some))
+    (λ some. both_ways _ c.if-any_empty-2.false (c.any_empty-else-not-changed.ensures.1 some))
 
 pub loop-changed-init : goal.loop-changed-init
 loop-changed-init g c = going_none _ _ _ _ _
 
-pub returns-then-any-empty : goal.returns-then-any-empty
-returns-then-any-empty g c = rounded_at_once _ g.R.Row.span _ _ _ (c.any-empty.ensures.0 c.if-any-empty.true)
+pub returns-then-any_empty : goal.returns-then-any_empty
+returns-then-any_empty g c = rounded_at_once _ g.R.Row.span _ _ _ (c.any_empty.ensures.0 c.if-any_empty.true)

@@ -15,7 +15,7 @@ returns-in-1 g c =
     beside_one g.R.Row.span (values c.args.row) (values c.args.other) (values c.minus.result) (g.met.R.Row.inside c.args.other)
     (omega arith) c.minus.ensures
 
-pub returns-in-default : goal.returns-in-default
-returns-in-default g c =
+pub returns-in_default : goal.returns-in_default
+returns-in_default g c =
     let values = g.R.Row.values in
     beside_more g.R.Row.span (values c.args.row) (values c.args.other) (values c.args.row) (g.met.R.Row.inside c.args.other) (λ e. omega arith) (λ e. omega arith)

@@ -3,8 +3,8 @@ use Rattle.sheet.specs.Holding.{passes}
 use Rattle.sheet.proofs.EditedRows.{no_more, edits_made}
 use Rattle.sheet.proofs.editing.edit_field.Goals as goal
 
-pub overflow-sub-result : goal.overflow-sub-result
-overflow-sub-result g c =
+pub overflow_sub-result : goal.overflow_sub-result
+overflow_sub-result g c =
     let R = g.R.Row in
     omega (arith, c.size.ensures, c.size-2.ensures, no_more R.span (R.values c.index-rows-field.result) (R.values c.kept-left.result) (passes c.args.edit c.args.value) c.kept-left.ensures)
 

@@ -9,8 +9,8 @@ use Rattle.tables.proofs.LeftExact.{axes_at}
 use Rattle.tables.proofs.Writes.{field_is, field_in, axis_not_yet, axis_written}
 use Rattle.tables.proofs.narrowing.cut_axes.Goals as goal
 
-pub offset-bounds-rows-field : goal.offset-bounds-rows-field
-offset-bounds-rows-field g c =
+pub offset_bounds-rows-field : goal.offset_bounds-rows-field
+offset_bounds-rows-field g c =
     let below = c.requires.own.below _ (field_in c.args.axes.now c.loop-j.j c.loop-j-test.true) in
     search rules
 

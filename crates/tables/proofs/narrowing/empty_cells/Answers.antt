@@ -5,7 +5,7 @@ use Rattle.tables.specs.Left.{none_left}
 use Rattle.tables.specs.Reads.{cell_fields}
 use Rattle.tables.proofs.Writes.{cell_written, constant_passed}
 use Rattle.tables.proofs.narrowing.empty_cells.Goals as goal
-use Rattle.tables.proofs.narrowing.empty_cells.Goals.{in-Field, in-default}
+use Rattle.tables.proofs.narrowing.empty_cells.Goals.{in-Field, in_default}
 
 pub loop-cell-preserved : goal.loop-cell-preserved
 loop-cell-preserved g c =
@@ -20,9 +20,9 @@ loop-cell-preserved g c =
           subst₂ (λ rows b. Written values none_left (cell_fields (take (i + 1) cells)) (length (cell_fields (take (i + 1) cells))) before rows b) (sym w.rows-is) (sym w.changed-is)
           (cell_written cells i within values none_left before after c.loop-cell.changed c.requires c.loop-cell.invariant w.in-Field.f w.in-Field.is
           w.replace-changed.new.rows w.replace-changed.result w.make.result (λ v. w.make.ensures v ∙ grind (arith, nat_tests)) w.replace-changed.ensures.after w.replace-changed.ensures.lost)
-      | in-default w ↦
+      | in_default w ↦
           subst₂ (λ rows b. Written values none_left (cell_fields (take (i + 1) cells)) (length (cell_fields (take (i + 1) cells))) before rows b) (sym w.rows-is) (sym w.changed-is)
-          (constant_passed cells i within values none_left before after c.loop-cell.changed c.requires c.loop-cell.invariant w.in-default.field-0 w.in-default.is)
+          (constant_passed cells i within values none_left before after c.loop-cell.changed c.requires c.loop-cell.invariant w.in_default.field-0 w.in_default.is)
     ]
 
 pub returns : goal.returns

@@ -9,11 +9,11 @@ use Rattle.tables.proofs.narrowing.narrow_table.Goals as goal
 pub scan-hits-requires : goal.scan-hits-requires
 scan-hits-requires g c = c.requires.fits
 
-pub empty-table-requires : goal.empty-table-requires
-empty-table-requires g c = all_own g.R.Row.values c.args.x c.args.axes.now c.args.cells.now c.args.rows.now c.requires.fits c.requires.below c.requires.distinct
+pub empty_table-requires : goal.empty_table-requires
+empty_table-requires g c = all_own g.R.Row.values c.args.x c.args.axes.now c.args.cells.now c.args.rows.now c.requires.fits c.requires.below c.requires.distinct
 
-pub keep-supported-requires : goal.keep-supported-requires
-keep-supported-requires g c =
+pub keep_supported-requires : goal.keep_supported-requires
+keep_supported-requires g c =
     let values = g.R.Row.values in
     let rows = c.args.rows.now in
     let x = c.args.x in
@@ -24,8 +24,8 @@ keep-supported-requires g c =
           (sets_at values rows x row c.requires.below c.index-rows-x.is) c.scan-hits.ensures;
     }
 
-pub empty-table-requires-in-default-2 : goal.empty-table-requires-in-default-2
-empty-table-requires-in-default-2 g c = all_own g.R.Row.values c.args.x c.args.axes.now c.args.cells.now c.args.rows.now c.requires.fits c.requires.below c.requires.distinct
+pub empty_table-requires-in_default-2 : goal.empty_table-requires-in_default-2
+empty_table-requires-in_default-2 g c = all_own g.R.Row.values c.args.x c.args.axes.now c.args.cells.now c.args.rows.now c.requires.fits c.requires.below c.requires.distinct
 
 pub returns-in-Nothing : goal.returns-in-Nothing
 returns-in-Nothing g c =
@@ -33,26 +33,26 @@ returns-in-Nothing g c =
     let rows = c.args.rows.now in
     let x = c.args.x in
     let row = c.index-rows-x.result in
-    dead_narrows values x c.args.axes.now c.args.cells.now rows c.requires.fits c.requires.below c.requires.distinct c.empty-table.new.rows c.empty-table.result
+    dead_narrows values x c.args.axes.now c.args.cells.now rows c.requires.fits c.requires.below c.requires.distinct c.empty_table.new.rows c.empty_table.result
     (hitless values x c.args.axes.now c.args.cells.now rows c.requires.fits c.requires.below c.requires.distinct row (rests_of row no_marks) (rests_of c.scan-hits.new.rest c.scan-hits.new.marks) c.scan-hits.result
     (sets_at values rows x row c.requires.below c.index-rows-x.is) c.scan-hits.ensures c.in-Nothing.is)
-    c.empty-table.ensures
+    c.empty_table.ensures
 
-pub returns-in-default : goal.returns-in-default
-returns-in-default g c =
+pub returns-in_default : goal.returns-in_default
+returns-in_default g c =
     let values = g.R.Row.values in
     let rows = c.args.rows.now in
     let x = c.args.x in
     let row = c.index-rows-x.result in
     let reads = sets_at values rows x row c.requires.below c.index-rows-x.is in
     live_narrows values x c.args.axes.now c.args.cells.now rows c.requires.fits c.requires.below c.requires.distinct row (rests_of row no_marks) (rests_of c.scan-hits.new.rest c.scan-hits.new.marks) c.scan-hits.result
-    reads c.scan-hits.ensures c.keep-supported.new.rows c.keep-supported.result c.in-default.not-Nothing (c.all-filled-filled.ensures.0 c.if-filled.true)
-    (λ v. sym (reads v)) none_marked c.keep-supported.ensures
+    reads c.scan-hits.ensures c.keep_supported.new.rows c.keep_supported.result c.in_default.not-Nothing (c.all_filled-filled.ensures.0 c.if-filled.true)
+    (λ v. sym (reads v)) none_marked c.keep_supported.ensures
 
-pub returns-in-default-2 : goal.returns-in-default-2
-returns-in-default-2 g c =
+pub returns-in_default-2 : goal.returns-in_default-2
+returns-in_default-2 g c =
     let values = g.R.Row.values in
     let rows = c.args.rows.now in
-    dead_narrows values c.args.x c.args.axes.now c.args.cells.now rows c.requires.fits c.requires.below c.requires.distinct c.empty-table-in-default-2.new.rows c.empty-table-in-default-2.result
-    (unfilled values c.args.x c.args.axes.now c.args.cells.now rows c.requires.fits c.requires.below c.requires.distinct (not_from_Decides c.all-filled-filled.result c.all-filled-filled.ensures c.if-filled.false))
-    c.empty-table-in-default-2.ensures
+    dead_narrows values c.args.x c.args.axes.now c.args.cells.now rows c.requires.fits c.requires.below c.requires.distinct c.empty_table-in_default-2.new.rows c.empty_table-in_default-2.result
+    (unfilled values c.args.x c.args.axes.now c.args.cells.now rows c.requires.fits c.requires.below c.requires.distinct (not_from_Decides c.all_filled-filled.result c.all_filled-filled.ensures c.if-filled.false))
+    c.empty_table-in_default-2.ensures

@@ -7,17 +7,17 @@ use Rattle.rules.proofs.RowSets.{sets_at}
 use Rattle.tables.specs.Reads.{cell_fields}
 use Rattle.tables.proofs.ViewSteps.{field_among, rest_field, rest_constant, rest_none, some_value, each_of}
 use Rattle.tables.proofs.reading.all_filled.Goals as goal
-use Rattle.tables.proofs.reading.all_filled.Goals.{in-Field+else-is-empty, in-default}
+use Rattle.tables.proofs.reading.all_filled.Goals.{in-Field+else-is_empty, in_default}
 
-pub offset-bounds-rows-f : goal.offset-bounds-rows-f
-offset-bounds-rows-f g c =
+pub offset_bounds-rows-f : goal.offset_bounds-rows-f
+offset_bounds-rows-f g c =
     omega (arith, c.requires c.in-Field.f (field_among c.args.cells.now c.loop-cell.cell-index c.in-Field.f _ c.loop-cell-test.true c.in-Field.is))
 
 pub bounds-rows-f : goal.bounds-rows-f
 bounds-rows-f g c = c.requires c.in-Field.f (field_among c.args.cells.now c.loop-cell.cell-index c.in-Field.f _ c.loop-cell-test.true c.in-Field.is)
 
-pub returns-then-is-empty : goal.returns-then-is-empty
-returns-then-is-empty g c =
+pub returns-then-is_empty : goal.returns-then-is_empty
+returns-then-is_empty g c =
     let rows = c.args.rows.now in
     let f = c.in-Field.f in
     let values = g.R.Row.values in
@@ -26,7 +26,7 @@ returns-then-is-empty g c =
       λ e. absurd (false≢true e),
       λ all.
           let some = all f here in
-          absurd (both_ways (values row some.0) (c.is-empty.ensures.0 c.if-is-empty.true some.0)
+          absurd (both_ways (values row some.0) (c.is_empty.ensures.0 c.if-is_empty.true some.0)
           (sym (sets_at values rows f row (c.requires f here) c.index-rows-f.is some.0) ∙ some.1)),
     )
 
@@ -38,15 +38,15 @@ loop-cell-preserved g c rest =
     let values = g.R.Row.values in
     let within = c.loop-cell-test.true in
     elim c.match-cell.branch [
-      | in-Field+else-is-empty w ↦
+      | in-Field+else-is_empty w ↦
           let f = w.in-Field.f in
           let row = w.index-rows-f.result in
           let low = c.requires f (field_among cells i f _ within w.in-Field.is) in
-          let some = some_value g.R.Row.span (values row) (g.met.R.Row.inside row) (not_from_Decides w.is-empty.result w.is-empty.ensures w.if-is-empty.false) in
+          let some = some_value g.R.Row.span (values row) (g.met.R.Row.inside row) (not_from_Decides w.is_empty.result w.is_empty.ensures w.if-is_empty.false) in
           c.loop-cell.invariant
           (each_of (λ f. (v : ℕ) × (sets values rows f v ≡ true)) f (cell_fields (drop (i + 1) cells)) (cell_fields (drop i cells)) (rest_field cells i f within w.in-Field.is)
           (some.0, sets_at values rows f row low w.index-rows-f.is some.0 ∙ some.1) rest)
-      | in-default w ↦ c.loop-cell.invariant (λ f h. rest f (subst (In f) (rest_constant cells i w.in-default.field-0 within w.in-default.is) h))
+      | in_default w ↦ c.loop-cell.invariant (λ f h. rest f (subst (In f) (rest_constant cells i w.in_default.field-0 within w.in_default.is) h))
     ]
 
 pub returns : goal.returns

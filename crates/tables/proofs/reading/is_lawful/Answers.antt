@@ -3,7 +3,7 @@ use Rattle.std.proofs.lemmas.Bool.{false≢true}
 use Rattle.tables.specs.Reads.{cell_fields, lookup_rule}
 use Rattle.tables.proofs.NewFields.{new_first, new_rest, lawful_like}
 use Rattle.tables.proofs.reading.is_lawful.Goals as goal
-use Rattle.tables.proofs.reading.is_lawful.Goals.{then-not-small-via-then-not-small, then-not-small-via-else-not-small+then-not-note-axes}
+use Rattle.tables.proofs.reading.is_lawful.Goals.{then-not-small-via-then-not-small, then-not-small-via-else-not-small+then-not-note_axes}
 
 pub returns-then-not-small : goal.returns-then-not-small
 returns-then-not-small c =
@@ -18,8 +18,8 @@ returns-then-not-small c =
           let all = (lawful_like n x others (lookup_rule x axes cells).allows none c.none-seen.ensures).1 lawful in
           elim c.then-not-small.branch [
             | then-not-small-via-then-not-small w ↦ absurd (omega (arith, all.below x (inl refl), w.if-not-small.true))
-            | then-not-small-via-else-not-small+then-not-note-axes w ↦
-                absurd (w.note-axes.ensures.refused w.if-not-note-axes.true (cell_fields cells) (new_rest n x none c.note.new.self c.note.ensures.noted others all))
+            | then-not-small-via-else-not-small+then-not-note_axes w ↦
+                absurd (w.note_axes.ensures.refused w.if-not-note_axes.true (cell_fields cells) (new_rest n x none c.note.new.self c.note.ensures.noted others all))
           ],
     )
 
@@ -33,8 +33,8 @@ returns c =
     let none = c.none-seen.result in
     let first = c.note.new.self in
     let like = lawful_like n x others (lookup_rule x axes cells).allows none c.none-seen.ensures in
-    let true-axes = c.if-not-note-axes.false in (
+    let true-axes = c.if-not-note_axes.false in (
       λ e. like.0 (new_first n x none first c.note.ensures.noted others c.if-not-small.false (c.none-seen.ensures x)
-          (c.note-axes.ensures.back true-axes (cell_fields cells) (c.note-cells.ensures.0 e))),
-      λ lawful. c.note-cells.ensures.1 (c.note-axes.ensures.onward true-axes (cell_fields cells) (new_rest n x none first c.note.ensures.noted others (like.1 lawful))),
+          (c.note_axes.ensures.back true-axes (cell_fields cells) (c.note_cells.ensures.0 e))),
+      λ lawful. c.note_cells.ensures.1 (c.note_axes.ensures.onward true-axes (cell_fields cells) (new_rest n x none first c.note.ensures.noted others (like.1 lawful))),
     )

@@ -5,7 +5,7 @@ use Rattle.tables.proofs.NewFields.{Like, none_new, not_new, like_noted}
 use Rattle.tables.proofs.ViewSteps.{rest_field, rest_constant, rest_none}
 use Rattle.tables.specs.Views.{New}
 use Rattle.tables.proofs.reading.note_cells.Goals as goal
-use Rattle.tables.proofs.reading.note_cells.Goals.{then-not-small-via-then-not-small, then-not-small-via-else-not-small+then-not-note, in-Field+else-not-small+else-not-note, in-default}
+use Rattle.tables.proofs.reading.note_cells.Goals.{then-not-small-via-then-not-small, then-not-small-via-else-not-small+then-not-note, in-Field+else-not-small+else-not-note, in_default}
 
 pub returns-then-not-small : goal.returns-then-not-small
 returns-then-not-small c =
@@ -40,9 +40,9 @@ loop-cell-preserved c =
           (like_noted n f before seen w.note.new.self all rest
           (subst (Like n before all seen) (rest_field cells i f c.loop-cell-test.true w.in-Field.is) c.loop-cell.invariant)
           w.if-not-small.false (not-true _ (sym w.note.ensures.new ∙ w.if-not-note.false)) w.note.ensures.noted)
-      | in-default w ↦
+      | in_default w ↦
           subst (λ s. Like n before all s rest) (sym w.seen-is)
-          (subst (Like n before all seen) (rest_constant cells i w.in-default.field-0 c.loop-cell-test.true w.in-default.is) c.loop-cell.invariant)
+          (subst (Like n before all seen) (rest_constant cells i w.in_default.field-0 c.loop-cell-test.true w.in_default.is) c.loop-cell.invariant)
     ]
 
 pub returns : goal.returns

@@ -25,8 +25,8 @@ returns-then-axes-eq0 g t c =
     one_scanned g.R.Row.values (sets g.R.Row.values c.args.rows.now) (g.R.Row.values c.args.x) c.args.level c.args.axes.now c.args.cells.now (rests_of c.args.rest.now c.args.marks.now) (rests_of c.visit.new.rest c.args.marks.now) c.visit.result
     c.if-axes-eq0.true c.requires.long (c.visit.ensures c.args.level c.args.marks.now)
 
-pub offset-bounds-rows-axis : goal.offset-bounds-rows-axis
-offset-bounds-rows-axis g t c =
+pub offset_bounds-rows-axis : goal.offset_bounds-rows-axis
+offset_bounds-rows-axis g t c =
     let whole = first_axis c.args.axes.now c.if-axes-eq0.false in
     omega (arith, first_row _ _ _ _ _ (subst (λ axes. Scannable c.args.level axes c.args.cells.now (length c.args.rows.now)) whole c.requires))
 
@@ -35,25 +35,25 @@ bounds-rows-axis g t c =
     let whole = first_axis c.args.axes.now c.if-axes-eq0.false in
     first_row _ _ _ _ _ (subst (λ axes. Scannable c.args.level axes c.args.cells.now (length c.args.rows.now)) whole c.requires)
 
-pub nonzero-div-size : goal.nonzero-div-size
-nonzero-div-size g t c =
+pub nonzero_div-size : goal.nonzero_div-size
+nonzero_div-size g t c =
     let whole = first_axis c.args.axes.now c.if-axes-eq0.false in
     extent_positive _ _ _ _ _ (subst (λ axes. Scannable c.args.level axes c.args.cells.now (length c.args.rows.now)) whole c.requires)
 
-pub overflow-add-end : goal.overflow-add-end
-overflow-add-end g t c =
+pub overflow_add-end : goal.overflow_add-end
+overflow_add-end g t c =
     let whole = first_axis c.args.axes.now c.if-axes-eq0.false in
     let within = block_within _ _ _ _ _ (subst (λ axes. Scannable c.args.level axes c.args.cells.now (length c.args.rows.now)) whole c.requires) c.loop-d.d c.loop-d-test.true in
     omega arith
 
-pub offset-bounds-cells-start : goal.offset-bounds-cells-start
-offset-bounds-cells-start g t c =
+pub offset_bounds-cells-start : goal.offset_bounds-cells-start
+offset_bounds-cells-start g t c =
     let whole = first_axis c.args.axes.now c.if-axes-eq0.false in
     let within = block_within _ _ _ _ _ (subst (λ axes. Scannable c.args.level axes c.args.cells.now (length c.args.rows.now)) whole c.requires) c.loop-d.d c.loop-d-test.true in
     omega arith
 
-pub slice-bounds-scan-end-then-has : goal.slice-bounds-scan-end-then-has
-slice-bounds-scan-end-then-has g t c =
+pub slice_bounds-scan-end-then-has : goal.slice_bounds-scan-end-then-has
+slice_bounds-scan-end-then-has g t c =
     let whole = first_axis c.args.axes.now c.if-axes-eq0.false in
     let within = block_within _ _ _ _ _ (subst (λ axes. Scannable c.args.level axes c.args.cells.now (length c.args.rows.now)) whole c.requires) c.loop-d.d c.loop-d-test.true in
     search rules
@@ -77,7 +77,7 @@ loop-d-preserved g t c =
     let reads = sets_at values rows (get_or axes 0 no_axis).field c.index-rows-axis.result row c.index-rows-axis.is c.loop-d.d in
     elim c.if-has.branch [
       | then-has w ↦
-          subst₂ (λ r h. Swept values S X c.args.level (length axes) (Under (c.loop-d.d + 1) (Reaches S axes cells)) start r h) (ap₂ rests_of (sym w.rest-is) (sym w.marks-is)) (sym (w.hits-is ∙ w.both-hits.ensures))
+          subst₂ (λ r h. Swept values S X c.args.level (length axes) (Under (c.loop-d.d + 1) (Reaches S axes cells)) start r h) (ap₂ rests_of (sym w.rest-is) (sym w.marks-is)) (sym (w.hits-is ∙ w.both_hits.ensures))
           (block_joined c.args.level (length rows) axes cells c.if-axes-eq0.false c.requires values S X start c.loop-d.d (rests_of c.loop-d.rest c.loop-d.marks) (rests_of w.scan-more.new.rest w.scan-more.new.marks) (rests_of w.scan-more.new.rest w.note.new.marks)
           c.loop-d.hits w.scan-more.result c.loop-d-test.true (reads ∙ sym w.if-has.ensures) c.loop-d.invariant w.scan-more.ensures w.note.ensures refl)
       | else-has w ↦

@@ -1,7 +1,7 @@
 use Rattle.std.proofs.Common.{◌≡◌, suc, get_or, sym, ap, ◌∙◌, ap₂, arith}
 use Rattle.tables.proofs.ViewSteps.{rest_field, rest_constant, rest_none}
 use Rattle.tables.proofs.view.cell_field.Goals as goal
-use Rattle.tables.proofs.view.cell_field.Goals.{in-Field+else-left-eq0, in-default}
+use Rattle.tables.proofs.view.cell_field.Goals.{in-Field+else-left-eq0, in_default}
 
 pub returns-then-left-eq0 : goal.returns-then-left-eq0
 returns-then-left-eq0 c =
@@ -18,8 +18,8 @@ loop-cell-preserved c =
           let here = rest_field cells i w.in-Field.f c.loop-cell-test.true w.in-Field.is in
           let one : left ≡ suc c.match-cell.left = omega (arith, w.left-is, w.if-left-eq0.false) in
           c.loop-cell.invariant ∙ ap₂ (λ fs k. get_or fs k 255) here one
-      | in-default w ↦
-          let here = rest_constant cells i w.in-default.field-0 c.loop-cell-test.true w.in-default.is in
+      | in_default w ↦
+          let here = rest_constant cells i w.in_default.field-0 c.loop-cell-test.true w.in_default.is in
           c.loop-cell.invariant ∙ ap₂ (λ fs k. get_or fs k 255) here (sym w.left-is)
     ]
 

@@ -1,7 +1,7 @@
 use Rattle.std.proofs.Common.{length, ap, arith}
 use Rattle.tables.proofs.ViewSteps.{rest_field, rest_constant, rest_none}
 use Rattle.tables.proofs.view.field_count.Goals as goal
-use Rattle.tables.proofs.view.field_count.Goals.{in-Field, in-default}
+use Rattle.tables.proofs.view.field_count.Goals.{in-Field, in_default}
 
 pub loop-cell-preserved : goal.loop-cell-preserved
 loop-cell-preserved c =
@@ -11,8 +11,8 @@ loop-cell-preserved c =
       | in-Field w ↦
           let left = ap length (rest_field cells i w.in-Field.field-0 c.loop-cell-test.true w.in-Field.is) in
           (omega (arith, w.count-is, c.loop-cell.invariant.0), omega (arith, w.count-is, c.loop-cell.invariant.1))
-      | in-default w ↦
-          let left = ap length (rest_constant cells i w.in-default.field-0 c.loop-cell-test.true w.in-default.is) in
+      | in_default w ↦
+          let left = ap length (rest_constant cells i w.in_default.field-0 c.loop-cell-test.true w.in_default.is) in
           (omega (arith, w.count-is, c.loop-cell.invariant.0), omega (arith, w.count-is, c.loop-cell.invariant.1))
     ]
 

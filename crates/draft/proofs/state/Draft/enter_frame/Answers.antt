@@ -3,15 +3,15 @@ use Rattle.draft.specs.Memory.{held}
 use Rattle.draft.proofs.EntryRoom.{frame_space}
 use Rattle.draft.proofs.state.Draft.enter_frame.Goals as goal
 
-pub write-parts-requires : goal.write-parts-requires
-write-parts-requires g c =
-    (frame_space c.args.self (length c.args.rows.now) (held c.args.memory.now) c.args.parts.now (sym c.frame-fault.ensures ∙ c.in-default.is)).parts
+pub write_parts-requires : goal.write_parts-requires
+write_parts-requires g c =
+    (frame_space c.args.self (length c.args.rows.now) (held c.args.memory.now) c.args.parts.now (sym c.frame_fault.ensures ∙ c.in_default.is)).parts
 
 pub bounds-memory-self : goal.bounds-memory-self
 bounds-memory-self g c =
-    (frame_space c.args.self (length c.args.rows.now) (held c.args.memory.now) c.args.parts.now (sym c.frame-fault.ensures ∙ c.in-default.is)).frame
+    (frame_space c.args.self (length c.args.rows.now) (held c.args.memory.now) c.args.parts.now (sym c.frame_fault.ensures ∙ c.in_default.is)).frame
 
-pub overflow-add-result-2 : goal.overflow-add-result-2
-overflow-add-result-2 g c =
-    let space = frame_space c.args.self (length c.args.rows.now) (held c.args.memory.now) c.args.parts.now (sym c.frame-fault.ensures ∙ c.in-default.is) in
+pub overflow_add-result-2 : goal.overflow_add-result-2
+overflow_add-result-2 g c =
+    let space = frame_space c.args.self (length c.args.rows.now) (held c.args.memory.now) c.args.parts.now (sym c.frame_fault.ensures ∙ c.in_default.is) in
     omega (arith, space.few_parts)

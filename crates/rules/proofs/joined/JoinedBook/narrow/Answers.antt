@@ -9,13 +9,13 @@ returns-then-k-count g c =
     let rs = g.B.Book.rules c.args.self.now.second in
     let k = c.args.k in
     moved g.R.Row.values _ (rule_at qs k) k k c.args.n c.args.rows.now c.narrow.new.rows c.narrow.result (omega arith) (omega arith)
-    (first_rule qs rs k c.rule-count-count.result (omega arith) c.rule-count-count.ensures (omega arith)) c.narrow.ensures
+    (first_rule qs rs k c.rule_count-count.result (omega arith) c.rule_count-count.ensures (omega arith)) c.narrow.ensures
 
 pub returns-else-k-count : goal.returns-else-k-count
 returns-else-k-count g c =
     let qs = g.A.Book.rules c.args.self.now.first in
     let rs = g.B.Book.rules c.args.self.now.second in
     let k = c.args.k in
-    let count = c.rule-count-count.result in
+    let count = c.rule_count-count.result in
     moved g.R.Row.values _ (rule_at rs (k - count)) k (k - count) c.args.n c.args.rows.now c.narrow-else-k-count.new.rows c.narrow-else-k-count.result (omega arith) (omega arith)
-    (second_rule qs rs k count (omega arith) c.rule-count-count.ensures (omega arith)) c.narrow-else-k-count.ensures
+    (second_rule qs rs k count (omega arith) c.rule_count-count.ensures (omega arith)) c.narrow-else-k-count.ensures

@@ -6,4 +6,4 @@ pub returns : goal.returns
 returns g c =
     let qs = g.A.Book.rules c.args.self.now.first in
     let rs = g.B.Book.rules c.args.self.now.second in
-    c.min.ensures ∙ ap₂ (λ a b. min (a + b) 1025) c.rule-count.ensures c.rule-count-2.ensures ∙ count_both qs rs
+    c.min.ensures ∙ ap₂ (λ a b. min (a + b) 1025) c.rule_count.ensures c.rule_count-2.ensures ∙ count_both qs rs

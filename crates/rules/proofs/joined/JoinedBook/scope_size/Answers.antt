@@ -6,10 +6,10 @@ pub returns-then-k-count : goal.returns-then-k-count
 returns-then-k-count g c =
     let qs = g.A.Book.rules c.args.self.now.first in
     let rs = g.B.Book.rules c.args.self.now.second in
-    c.scope-size.ensures ∙ first_size qs rs c.args.k c.rule-count-count.result (omega arith) c.rule-count-count.ensures (omega arith)
+    c.scope_size.ensures ∙ first_size qs rs c.args.k c.rule_count-count.result (omega arith) c.rule_count-count.ensures (omega arith)
 
 pub returns-else-k-count : goal.returns-else-k-count
 returns-else-k-count g c =
     let qs = g.A.Book.rules c.args.self.now.first in
     let rs = g.B.Book.rules c.args.self.now.second in
-    c.scope-size-else-k-count.ensures ∙ second_size qs rs c.args.k c.rule-count-count.result (omega arith) c.rule-count-count.ensures (omega arith)
+    c.scope_size-else-k-count.ensures ∙ second_size qs rs c.args.k c.rule_count-count.result (omega arith) c.rule_count-count.ensures (omega arith)

@@ -7,12 +7,12 @@ use Rattle.settle_tests.proofs.Pairs.{past_unfit}
 use Rattle.settle_tests.proofs.differing.DifferingBook.narrow.Goals as goal
 use Rattle.settle_tests.proofs.differing.DifferingBook.narrow.Goals.{then-n-rows-via-then-n-rows, then-n-rows-via-else-n-rows+then-one-n, then-n-rows-via-else-n-rows+else-one-n+then-other-n, then-n-rows-via-else-n-rows+else-one-n+else-other-n+then-one-other}
 
-pub returns-in-default : goal.returns-in-default
-returns-in-default g c =
+pub returns-in_default : goal.returns-in_default
+returns-in_default g c =
     let book = c.args.self.now in
     let rows = c.args.rows.now in
     refused_as g.R.Row.values (rule_at (differ_rules book) c.args.k) c.args.k c.args.n rows Unfit
-    (past_unfit book c.args.k c.args.n (length rows) c.in-default.ensures)
+    (past_unfit book c.args.k c.args.n (length rows) c.in_default.ensures)
 
 pub returns-then-n-rows : goal.returns-then-n-rows
 returns-then-n-rows g c =

@@ -19,7 +19,7 @@ pub returns-in-Some : goal.returns-in-Some
 returns-in-Some c =
     let book = c.args.self.now in
     let long = length-map book.heads.now (table_rule book.cells.now) in
-    let size = c.field-total.ensures ∙ sym (ap (λ r. length r.scope) c.in-Some.ensures.rule) in
+    let size = c.field_total.ensures ∙ sym (ap (λ r. length r.scope) c.in-Some.ensures.rule) in
     grind (arith, nat_tests)
 
 pub returns-in-None : goal.returns-in-None

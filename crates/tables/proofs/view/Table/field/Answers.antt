@@ -10,4 +10,4 @@ returns-then-place-count c =
 pub returns : goal.returns
 returns c =
     let t = c.args.self.now in
-    c.cell-field.ensures ∙ place_cell t.x c.args.place t.axis_count t.axes t.cells.now c.if-place-count.false (search rules)
+    c.cell_field.ensures ∙ place_cell t.x c.args.place t.axis_count t.axes t.cells.now c.if-place-count.false (search rules)
