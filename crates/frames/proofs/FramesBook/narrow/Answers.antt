@@ -6,7 +6,7 @@ use Rattle.frames.specs.Reads.{sum_rule, frame_rules}
 use Rattle.frames.proofs.Narrowings.{lawful_as, refused_as, enough_rows, cut_narrows, none_narrows}
 use Rattle.frames.proofs.Supports.{none_without, none_over}
 use Rattle.frames.proofs.FramesBook.narrow.Goals as goal
-use Rattle.frames.proofs.FramesBook.narrow.Goals.{then-k-gt1023-via-then-k-gt1023, then-k-gt1023-via-else-k-gt1023+then-n-rows, then-k-gt1023-via-else-k-gt1023+else-n-rows+then-not-is_lawful, in_default-via-in-Some+else-sum-limit, in_default-via-in-None·}
+use Rattle.frames.proofs.FramesBook.narrow.Goals.{then-k-gt1023-via-then-k-gt1023, then-k-gt1023-via-else-k-gt1023+then-n-rows, then-k-gt1023-via-else-k-gt1023+else-n-rows+then-not-is_lawful, in_default-via-in-Some+else-sum-limit, in_default-via-in_default}
 
 pub returns-then-k-gt1023 : goal.returns-then-k-gt1023
 returns-then-k-gt1023 g c =
@@ -48,7 +48,7 @@ returns-in_default g c =
     c.parts_of-parts.ensures c.limit_of-limit.ensures ((c.is_lawful.ensures limit).0 c.if-not-is_lawful.false) c.if-k-gt1023.false c.if-n-rows.false
     (elim c.in_default.branch [
       | in_default-via-in-Some+else-sum-limit w ↦ none_over S parts limit w.in-Some.sum w.in-Some.ensures w.if-sum-limit.false
-      | in_default-via-in-None· w ↦
+      | in_default-via-in_default w ↦
           let none : c.least_sum.result ≡ None = cc in
           none_without S parts limit (subst (λ o. MatchOption o (OneEmpty S parts) (Summed S parts)) none c.least_sum.ensures)
     ])

@@ -32,11 +32,11 @@ loop-j-preserved g c =
     let new = axes_left marks S S axes 0 in
     let low : f < length after = omega (arith, c.requires.own.below _ (field_in axes j within)) in
     let start : 0 + j ≡ j = omega arith in
-    axis_written axes j within values new before after c.loop-j.changed c.requires.own_val c.loop-j.invariant
+    axis_written axes j within values new before after c.loop-j.changed c.requires.own c.loop-j.invariant
     c.replace-changed.new.rows c.replace-changed.result c.marked-left.result
     (λ v. c.marked-left.ensures v
     ∙ ap₂ (λ a k. a && not (unmarked marks k v))
-    (sym (sets_at values after f row low c.index-rows-field.is v) ∙ axis_not_yet axes j within values new before after c.loop-j.changed c.requires.own_val c.loop-j.invariant v)
+    (sym (sets_at values after f row low c.index-rows-field.is v) ∙ axis_not_yet axes j within values new before after c.loop-j.changed c.requires.own c.loop-j.invariant v)
     (sym start)
     ∙ ap (λ u. S u v && not (unmarked marks (0 + j) v)) (sym (field_is axes j within))
     ∙ sym (axes_at marks S S axes 0 j v within c.requires.own.distinct)

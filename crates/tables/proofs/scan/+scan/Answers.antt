@@ -77,7 +77,7 @@ loop-d-preserved g t c =
     let reads = sets_at values rows (get_or axes 0 no_axis).field c.index-rows-axis.result row c.index-rows-axis.is c.loop-d.d in
     elim c.if-has.branch [
       | then-has w ↦
-          subst₂ (λ r h. Swept values S X c.args.level (length axes) (Under (c.loop-d.d + 1) (Reaches S axes cells)) start r h) (ap₂ rests_of (sym w.rest-is) (sym w.marks-is)) (sym (w.hits-is ∙ w.both_hits.ensures))
+          subst₂ (λ r h. Swept values S X c.args.level (length axes) (Under (c.loop-d.d + 1) (Reaches S axes cells)) start r h) (ap₂ rests_of (sym w.rest-is) (sym w.marks-is)) (sym (w.hits-is ∙ w.both-hits.ensures))
           (block_joined c.args.level (length rows) axes cells c.if-axes-eq0.false c.requires values S X start c.loop-d.d (rests_of c.loop-d.rest c.loop-d.marks) (rests_of w.scan-more.new.rest w.scan-more.new.marks) (rests_of w.scan-more.new.rest w.note.new.marks)
           c.loop-d.hits w.scan-more.result c.loop-d-test.true (reads ∙ sym w.if-has.ensures) c.loop-d.invariant w.scan-more.ensures w.note.ensures refl)
       | else-has w ↦
