@@ -81,7 +81,7 @@ fn frames_leave_what_enumeration_leaves(rt: HostRuntime) -> Result<(), Fail> {
 }
 
 // A frame that does not fit is refused, and its rows keep their sets.
-fn refuses(rt: &impl Abort, frame: Frame, k: usize, n: usize) -> Result<(), Fail> {
+fn refuses(rt: &impl Abort, case: &str, frame: Frame, k: usize, n: usize) -> Result<(), Fail> {
     let frames = [frame];
     let parts = [
         Part { field: 0, load: 0 },
@@ -93,9 +93,13 @@ fn refuses(rt: &impl Abort, frame: Frame, k: usize, n: usize) -> Result<(), Fail
         parts: &parts,
     };
     let mut rows = [Bits::make(3, 9), Bits::make(4, 8)];
-    assert_eq!(rt; book.narrow(k, n, &mut rows), Err(NarrowFault::Unfit));
-    assert_eq!(rt; rows[0].size(), 7);
-    assert_eq!(rt; rows[1].size(), 5);
+    assert_eq!(rt;
+        book.narrow(k, n, &mut rows),
+        Err(NarrowFault::Unfit),
+        "{case}"
+    );
+    assert_eq!(rt; rows[0].size(), 7, "{case}");
+    assert_eq!(rt; rows[1].size(), 5, "{case}");
     Ok(())
 }
 
@@ -106,12 +110,13 @@ fn a_frame_that_does_not_fit_is_refused(rt: HostRuntime) -> Result<(), Fail> {
         count: 2,
         limit: 0,
     };
-    refuses(&rt, good, 1, 2).note("past the end")?;
-    refuses(&rt, good, 1024, 2).note("above 1,023")?;
-    refuses(&rt, good, 0, 3).note("too few rows")?;
-    refuses(&rt, good, 0, 1).note("a field not below n")?;
+    refuses(&rt, "past the end", good, 1, 2)?;
+    refuses(&rt, "above 1,023", good, 1024, 2)?;
+    refuses(&rt, "too few rows", good, 0, 3)?;
+    refuses(&rt, "a field not below n", good, 0, 1)?;
     refuses(
         &rt,
+        "a field twice",
         Frame {
             first: 0,
             count: 3,
@@ -119,10 +124,10 @@ fn a_frame_that_does_not_fit_is_refused(rt: HostRuntime) -> Result<(), Fail> {
         },
         0,
         2,
-    )
-    .note("a field twice")?;
+    )?;
     refuses(
         &rt,
+        "no part",
         Frame {
             first: 0,
             count: 0,
@@ -130,10 +135,10 @@ fn a_frame_that_does_not_fit_is_refused(rt: HostRuntime) -> Result<(), Fail> {
         },
         0,
         2,
-    )
-    .note("no part")?;
+    )?;
     refuses(
         &rt,
+        "parts past the memory",
         Frame {
             first: 2,
             count: 2,
@@ -141,10 +146,10 @@ fn a_frame_that_does_not_fit_is_refused(rt: HostRuntime) -> Result<(), Fail> {
         },
         0,
         2,
-    )
-    .note("parts past the memory")?;
+    )?;
     refuses(
         &rt,
+        "parts outside the memory",
         Frame {
             first: 9,
             count: 1,
@@ -153,7 +158,6 @@ fn a_frame_that_does_not_fit_is_refused(rt: HostRuntime) -> Result<(), Fail> {
         0,
         2,
     )
-    .note("parts outside the memory")
 }
 
 // A row that has no value does not hide what stands behind it.

@@ -13,6 +13,7 @@ use tables::record::{Axis, Cell, Head, Tables};
 // The rows of some shapes, narrowed, have just the values of others.
 fn leaves<R: Row>(
     rt: &impl Abort,
+    case: &str,
     heap: Global,
     before: [u8; 3],
     after: [u8; 3],
@@ -35,18 +36,24 @@ fn leaves<R: Row>(
     let mut rows = rows_of::<R>(heap, before)?;
     book.narrow(0, 3, rows.as_mut_slice())?;
     let left = rows_of::<R>(heap, after)?;
-    assert!(rt; rows.len() == 3 && left.len() == 3);
+    assert!(rt; rows.len() == 3 && left.len() == 3, "{case}");
     for f in 0..3usize {
         for v in 0..8u8 {
-            assert_eq!(rt; rows[f].has(v), left[f].has(v));
+            assert_eq!(rt; rows[f].has(v), left[f].has(v), "{case}");
         }
     }
     Ok(())
 }
 
-fn both_kinds(rt: &impl Abort, heap: Global, before: [u8; 3], after: [u8; 3]) -> Result<(), Fail> {
-    leaves::<Bits>(rt, heap, before, after)?;
-    leaves::<Runs>(rt, heap, before, after)
+fn both_kinds(
+    rt: &impl Abort,
+    case: &str,
+    heap: Global,
+    before: [u8; 3],
+    after: [u8; 3],
+) -> Result<(), Fail> {
+    leaves::<Bits>(rt, case, heap, before, after)?;
+    leaves::<Runs>(rt, case, heap, before, after)
 }
 
 // While both cells can be selected, the field cell keeps a value that field 0 does not have.
@@ -54,25 +61,54 @@ fn both_kinds(rt: &impl Abort, heap: Global, before: [u8; 3], after: [u8; 3]) ->
 fn a_field_cell_is_not_cut_while_two_indices_are_left(rt: HostRuntime) -> Result<(), Fail> {
     both_kinds(
         &rt,
+        "two indices are left",
         rt.alloc(),
         [0b1100, 0b11, 0b110],
         [0b1100, 0b11, 0b110],
     )?;
-    both_kinds(&rt, rt.alloc(), [0b1100, 0b10, 0b110], [0b100, 0b10, 0b100]).note(
+    both_kinds(
+        &rt,
         "one index is left",
+        rt.alloc(),
+        [0b1100, 0b10, 0b110],
+        [0b100, 0b10, 0b100],
     )
 }
 
 // No line is left, though the one index that is open selects the constant.
 #[test]
 fn an_empty_cell_that_is_not_selected_ends_every_line(rt: HostRuntime) -> Result<(), Fail> {
-    both_kinds(&rt, rt.alloc(), [0b1000, 0b1, 0], [0, 0, 0])?;
-    both_kinds(&rt, rt.alloc(), [0b1000, 0b1, 0b1], [0b1000, 0b1, 0b1]).note("the cell has a value")
+    both_kinds(
+        &rt,
+        "the cell has no value",
+        rt.alloc(),
+        [0b1000, 0b1, 0],
+        [0, 0, 0],
+    )?;
+    both_kinds(
+        &rt,
+        "the cell has a value",
+        rt.alloc(),
+        [0b1000, 0b1, 0b1],
+        [0b1000, 0b1, 0b1],
+    )
 }
 
 // The extent is no index, and neither is what lies above it.
 #[test]
 fn an_index_at_its_extent_goes(rt: HostRuntime) -> Result<(), Fail> {
-    both_kinds(&rt, rt.alloc(), [0b1000, 0b101, 0b1], [0b1000, 0b1, 0b1])?;
-    both_kinds(&rt, rt.alloc(), [0b1000, 0b1000_0100, 0b1], [0, 0, 0]).note("no other index")
+    both_kinds(
+        &rt,
+        "an index is left",
+        rt.alloc(),
+        [0b1000, 0b101, 0b1],
+        [0b1000, 0b1, 0b1],
+    )?;
+    both_kinds(
+        &rt,
+        "no other index",
+        rt.alloc(),
+        [0b1000, 0b1000_0100, 0b1],
+        [0, 0, 0],
+    )
 }

@@ -182,7 +182,7 @@ fn tables_of_two_axes_leave_what_enumeration_leaves(rt: HostRuntime) -> Result<(
 }
 
 // A table that does not fit is refused, and its rows keep their sets.
-fn refuses(rt: &impl Abort, table: Head, k: usize, n: usize) -> Result<(), Fail> {
+fn refuses(rt: &impl Abort, case: &str, table: Head, k: usize, n: usize) -> Result<(), Fail> {
     let heads = [table];
     let memory = [
         Cell::Constant(3),
@@ -196,10 +196,14 @@ fn refuses(rt: &impl Abort, table: Head, k: usize, n: usize) -> Result<(), Fail>
         cells: &memory,
     };
     let mut rows = [Bits::make(3, 9), Bits::make(0, 8), Bits::make(1, 2)];
-    assert_eq!(rt; book.narrow(k, n, &mut rows), Err(NarrowFault::Unfit));
-    assert_eq!(rt; rows[0].size(), 7);
-    assert_eq!(rt; rows[1].size(), 9);
-    assert_eq!(rt; rows[2].size(), 2);
+    assert_eq!(rt;
+        book.narrow(k, n, &mut rows),
+        Err(NarrowFault::Unfit),
+        "{case}"
+    );
+    assert_eq!(rt; rows[0].size(), 7, "{case}");
+    assert_eq!(rt; rows[1].size(), 9, "{case}");
+    assert_eq!(rt; rows[2].size(), 2, "{case}");
     Ok(())
 }
 
@@ -220,12 +224,13 @@ fn a_table_that_does_not_fit_is_refused(rt: HostRuntime) -> Result<(), Fail> {
         axis_count: 1,
         first: 0,
     };
-    refuses(&rt, good, 1, 3).note("past the end")?;
-    refuses(&rt, good, 1024, 3).note("above 1,023")?;
-    refuses(&rt, good, 0, 4).note("too few rows")?;
-    refuses(&rt, good, 0, 2).note("a field not below n")?;
+    refuses(&rt, "past the end", good, 1, 3)?;
+    refuses(&rt, "above 1,023", good, 1024, 3)?;
+    refuses(&rt, "too few rows", good, 0, 4)?;
+    refuses(&rt, "a field not below n", good, 0, 2)?;
     refuses(
         &rt,
+        "x is an axis too",
         Head {
             x: 1,
             axes,
@@ -234,10 +239,10 @@ fn a_table_that_does_not_fit_is_refused(rt: HostRuntime) -> Result<(), Fail> {
         },
         0,
         3,
-    )
-    .note("x is an axis too")?;
+    )?;
     refuses(
         &rt,
+        "an axis is a cell too",
         Head {
             x: 0,
             axes,
@@ -246,10 +251,10 @@ fn a_table_that_does_not_fit_is_refused(rt: HostRuntime) -> Result<(), Fail> {
         },
         0,
         3,
-    )
-    .note("an axis is a cell too")?;
+    )?;
     refuses(
         &rt,
+        "no axis",
         Head {
             x: 0,
             axes,
@@ -258,10 +263,10 @@ fn a_table_that_does_not_fit_is_refused(rt: HostRuntime) -> Result<(), Fail> {
         },
         0,
         3,
-    )
-    .note("no axis")?;
+    )?;
     refuses(
         &rt,
+        "five axes",
         Head {
             x: 0,
             axes,
@@ -270,10 +275,10 @@ fn a_table_that_does_not_fit_is_refused(rt: HostRuntime) -> Result<(), Fail> {
         },
         0,
         3,
-    )
-    .note("five axes")?;
+    )?;
     refuses(
         &rt,
+        "an extent of 0",
         Head {
             x: 0,
             axes,
@@ -282,10 +287,10 @@ fn a_table_that_does_not_fit_is_refused(rt: HostRuntime) -> Result<(), Fail> {
         },
         0,
         3,
-    )
-    .note("an extent of 0")?;
+    )?;
     refuses(
         &rt,
+        "cells past the memory",
         Head {
             x: 0,
             axes,
@@ -295,5 +300,4 @@ fn a_table_that_does_not_fit_is_refused(rt: HostRuntime) -> Result<(), Fail> {
         0,
         3,
     )
-    .note("cells past the memory")
 }
