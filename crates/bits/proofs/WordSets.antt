@@ -1,12 +1,12 @@
 -- What the operations on a word of 64 bits do to the set of its bits. Assumes nothing.
-use Rattle.std.proofs.Common.{◌≡◌, ℕ, ◌+◌, ◌-◌, ◌*◌, ◌%◌, ◌^◌, ◌<◌, ◌≤◌, Bool, true, false, not, ◌&&◌, eqb, ltb, Decides, sym, refl, ap, ◌∙◌, ap₂, ⊎_elim, eq-zero-or-pos, arith}
+use Rattle.std.proofs.Common.{◌≡◌, ℕ, ◌-◌, ◌*◌, ◌%◌, ◌^◌, ◌<◌, not, ◌&&◌, sym, refl, ap, ◌∙◌, ap₂, ⊎_elim, arith}
 use lib.Bits.{bit_and}
 use lib.Count.{count_leading_zeros, count_trailing_zeros}
 use Rattle.std.proofs.lemmas.Nat.{one_shl}
-use Rattle.std.proofs.lemmas.Bool.{cases_lt, lt-ltb, le-ltb, eqb-true, eq-eqb, both_ways}
-use Rattle.rows.specs.Values.{Values, Same, both, Empty, Meet, LeastOf, GreatestOf, less, without}
+use Rattle.std.proofs.lemmas.Bool.{cases_lt}
+use Rattle.rows.specs.Values.{Same, Empty, LeastOf, GreatestOf, less, without}
 use Rattle.rows.specs.Words.{bit}
-use Rattle.rows.proofs.Words.{bit_above, bit_zero, bit_of_and, bit_not, bit_ones, bit_low_ones, bit_single, none_set, lowest, top}
+use Rattle.rows.proofs.Words.{bit_above, bit_zero, bit_of_and, bit_not, bit_single, lowest, top}
 
 -- `a & !b`
 pub minus_word : (a b : ℕ) → a < 2 ^ 64 → b < 2 ^ 64 → Same (bit (bit_and a (2 ^ 64 - 1 - b))) (less (bit a) (bit b))

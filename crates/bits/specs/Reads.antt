@@ -1,6 +1,6 @@
 -- The set that a record of four words reads as.
 -- Assumes nothing.
-use Rattle.std.specs.Prelude.{ℕ, ◌/◌, ◌%◌, ◌&&◌, nat_lt, slice_index}
+use Rattle.std.specs.Prelude.{◌/◌, ◌%◌, ◌&&◌, nat_lt, slice_index}
 use Rattle.rows.specs.Values.{Values}
 use Rattle.rows.specs.Words.{bit}
 use Rattle.bits.specs.declared.record.Bits.{Bits}

@@ -1,5 +1,5 @@
 -- Where no line refuses an entry, there is room for it. Assumes nothing.
-use Rattle.std.proofs.Common.{◌≡◌, ℕ, ◌+◌, ◌<◌, ◌≤◌, false, ◌||◌, eqb, ltb, leb, List, map, length, None, arith}
+use Rattle.std.proofs.Common.{◌≡◌, ℕ, ◌+◌, ◌<◌, ◌≤◌, List, map, length, None, arith}
 use Rattle.std.proofs.lemmas.Bool.Decides.{nat_tests}
 use Rattle.tables.specs.Reads.{room}
 use Rattle.draft.specs.Entries.{lacking, field_lines, head_lines, cell_lines, frame_lines}

@@ -1,12 +1,12 @@
 -- How many cells the axes of a head select among. Assumes nothing.
-use Rattle.std.proofs.Common.{◌≡◌, ℕ, ◌%◌, ◌≤◌, Bool, true, false, not, ◌&&◌, ◌||◌, eqb, ltb, leb, ◌⊎◌, List, map, length, take, Some, None, Option, sym, refl, ap, ◌∙◌, subst, inl, inr, ⊎_elim, arith}
+use Rattle.std.proofs.Common.{◌≡◌, ℕ, ◌%◌, ◌≤◌, not, ◌||◌, eqb, ltb, leb, List, map, length, take, Some, None, Option, ap, ◌∙◌, subst, ⊎_elim, arith}
 use Rattle.std.proofs.lemmas.List.{length-map}
-use Rattle.std.proofs.lemmas.Bool.{ne_eqb, le-ltb, lt-ltb, le-leb, leb-true, leb-false, and_cases, not_from_false, not_from_true, or_from, or_left, or_right}
+use Rattle.std.proofs.lemmas.Bool.{ne_eqb, le-ltb, lt-ltb, leb-false, and_cases, not_from_false, not_from_true, or_from, or_left, or_right}
 use Rattle.tables.specs.Reads.{room, positive}
 use Rattle.tables.specs.Views.{IsRoom}
 use Rattle.tables.specs.declared.record.Axis.{Axis}
 use Rattle.draft.specs.Entries.{bad_head}
-use Rattle.draft.specs.Lists.{pairs, pair_count, odd, axis_of, four_axes}
+use Rattle.draft.specs.Lists.{pairs, pair_count, axis_of, four_axes}
 use Rattle.draft.specs.Reading.{IsRoomOf}
 use Rattle.draft.proofs.PairLists.{pairs_length, axes_again}
 

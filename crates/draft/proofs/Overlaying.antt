@@ -1,5 +1,5 @@
 -- Lists written over another from a place on. Assumes nothing.
-use Rattle.std.proofs.Common.{◌≡◌, ℕ, suc, ◌+◌, List, [], ◌∷◌, drop, set, sym, refl, ap, ◌∙◌, ap₂, add-zero, add-suc, add-one, arith}
+use Rattle.std.proofs.Common.{◌≡◌, ℕ, suc, ◌+◌, List, [], ◌∷◌, drop, set, ap, ◌∙◌, ap₂, add-zero, arith}
 use Rattle.draft.specs.Memory.{overlay}
 use Rattle.draft.proofs.PairSteps.{drop_none}
 

@@ -1,6 +1,6 @@
 -- What each entry answers, and what the draft, the rows and the memory are then.
 -- Assumes nothing.
-use Rattle.std.specs.Prelude.{◌≡◌, ℕ, ◌+◌, ◌-◌, min, Bool, true, false, cond, not, ◌&&◌, ◌||◌, List, [], ◌∷◌, ◌++◌, map, length, take, drop, Some, None, Ok, Err, Result, MatchResult, ◌==◌, nat_le, nat_lt, slice_index_or, slice_set}
+use Rattle.std.specs.Prelude.{◌≡◌, ℕ, ◌+◌, ◌-◌, min, Bool, true, false, cond, not, ◌||◌, List, [], ◌∷◌, ◌++◌, map, length, take, drop, Some, None, Ok, Err, Result, MatchResult, ◌==◌, nat_le, nat_lt, slice_index_or, slice_set}
 use Rattle.frames.specs.Reads.{frame_rule, frame_rules}
 use Rattle.frames.specs.declared.record.Frames.{Frames}
 use Rattle.rows.specs.Values.{Values, Same, from_to}

@@ -1,6 +1,6 @@
 -- Lists of pairs of bytes: the axes of a head, cells, the parts of a frame.
 -- Assumes nothing.
-use Rattle.std.specs.Prelude.{ℕ, ◌/◌, ◌%◌, Bool, true, false, cond, not, ◌&&◌, ◌||◌, List, [], ◌∷◌, ◌++◌, map, length, take, ◌==◌, nat_lt}
+use Rattle.std.specs.Prelude.{ℕ, ◌/◌, ◌%◌, Bool, true, false, cond, not, ◌&&◌, ◌||◌, List, [], ◌∷◌, ◌++◌, length, take, ◌==◌, nat_lt}
 use Rattle.frames.specs.declared.record.Part.{Part}
 use Rattle.rules.specs.Tree.{member}
 use Rattle.tables.specs.declared.record.Axis.{Axis}

@@ -36,7 +36,7 @@ fn writes<R: Row>(rt: &impl Abort, heap: Global) -> Result<(), Fail> {
     assert_eq!(rt; after.field_count(), 6);
     assert_eq!(rt; after.lacking_cells(), 0);
     rows_are_made(rt, lent.rows.as_slice());
-    assert!(rt; lent.memory_numbers(heap)? == MEMORY);
+    assert_eq!(rt; lent.memory_numbers(heap)?.as_slice(), MEMORY.as_slice());
     Ok(())
 }
 

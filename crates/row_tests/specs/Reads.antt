@@ -1,6 +1,6 @@
 -- The set that a switch reads as.
 -- Assumes nothing.
-use Rattle.std.specs.Prelude.{ℕ, zero, suc, false}
+use Rattle.std.specs.Prelude.{zero, suc, false}
 use Rattle.rows.specs.Values.{Values}
 use Rattle.row_tests.specs.declared.switch.Switch.{Switch}
 

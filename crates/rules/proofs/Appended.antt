@@ -1,9 +1,9 @@
 -- The rules of two books, one after the other. Assumes nothing.
-use Rattle.std.proofs.Common.{◌≡◌, ℕ, zero, suc, ◌+◌, ◌-◌, ◌<◌, ◌≤◌, min, Bool, true, false, cond, ◌&&◌, ltb, leb, List, [], ◌∷◌, ◌++◌, length, get_or, Result, sym, refl, ap, ◌∙◌, subst, ap₂, ⊎_elim, suc-add, zero-add, arith, length-append}
+use Rattle.std.proofs.Common.{◌≡◌, ℕ, zero, suc, ◌+◌, ◌-◌, ◌<◌, ◌≤◌, min, Bool, cond, ◌&&◌, leb, List, [], ◌∷◌, ◌++◌, length, get_or, Result, sym, refl, ap, ◌∙◌, subst, ap₂, ⊎_elim, suc-add, zero-add, arith, length-append}
 use Rattle.std.proofs.lemmas.Bool.{cases_lt, lt-ltb, le-ltb, le-leb}
 use Rattle.std.proofs.lemmas.Bool.Decides.{nat_tests}
 use Rattle.rows.specs.Values.{Values}
-use Rattle.rules.specs.Books.{rule_at, told, told_count, told_size, told_field, FitsRule, Narrows}
+use Rattle.rules.specs.Books.{rule_at, told, told_count, told_size, told_field, Narrows}
 use Rattle.rules.specs.Rules.{Rule}
 use Rattle.rules.specs.declared.fault.NarrowFault.{NarrowFault}
 

@@ -1,5 +1,5 @@
 -- Going through a rule's told fields decides whether it is lawful. Assumes nothing.
-use Rattle.std.proofs.Common.{◌≡◌, ℕ, ◌+◌, ◌<◌, ◌≤◌, Bool, true, false, ◌||◌, eqb, ◌⊎◌, List, length, get_or, sym, ap, ◌∙◌, subst, inl, inr, arith}
+use Rattle.std.proofs.Common.{◌≡◌, ℕ, ◌+◌, ◌<◌, ◌≤◌, true, false, ◌||◌, eqb, ◌⊎◌, List, length, get_or, sym, ap, ◌∙◌, subst, inl, inr, arith}
 use Rattle.rules.specs.Books.{rule_at, told_size, told_field}
 use Rattle.rules.specs.Rules.{Rule, LawfulRule}
 use Rattle.rules.specs.Seen.{was_seen}

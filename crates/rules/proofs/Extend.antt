@@ -1,8 +1,7 @@
 -- Of rules that make a tree, every value of a standing choice is part of a full setting.
 use Rattle.std.proofs.Common.{◌≡◌, ℕ, ◌<◌, ◌≤◌, true, ◌⊎◌, List, [], ◌∷◌, map, sym, refl, ap, ◌∙◌, subst, inl, inr, arith}
 use Rattle.std.proofs.lemmas.Bool.{cases_eq, cases_lt}
-use Rattle.rules.specs.Rules.{Sets, Rule, In, Distinct, EachRule, LawfulRule, Lawful, Allowed, Supported, StandsBy, Setting, Inside, Standing}
-use Rattle.rules.specs.Rings.{Ring}
+use Rattle.rules.specs.Rules.{Sets, Rule, In, Distinct, EachRule, LawfulRule, Allowed, Supported, StandsBy, Setting, Inside, Standing}
 use Rattle.rules.specs.Theorems.{NarrowingKeeps, RinglessExtends}
 use Rattle.rules.specs.Tree.{labels, Tree}
 use Rattle.rules.proofs.Lists.{find, some_in, label_apart, map_same}

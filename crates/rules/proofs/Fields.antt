@@ -1,5 +1,5 @@
 -- The first fields of a list. Assumes nothing.
-use Rattle.std.proofs.Common.{◌≡◌, ℕ, zero, suc, ◌+◌, ◌<◌, ◌⊎◌, List, [], ◌∷◌, length, get_or, take, sym, refl, ◌∙◌, subst, inl, inr, add-one, arith}
+use Rattle.std.proofs.Common.{◌≡◌, ℕ, zero, suc, ◌+◌, ◌<◌, ◌⊎◌, List, [], ◌∷◌, length, get_or, take, sym, refl, subst, inl, inr, add-one, arith}
 use Rattle.rules.specs.Rules.{In, Distinct}
 
 -- the field at a place is in the list

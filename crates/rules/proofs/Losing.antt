@@ -1,7 +1,7 @@
 -- Whether a field loses a value when its row is replaced. Assumes nothing.
-use Rattle.std.proofs.Common.{◌≡◌, ℕ, ◌<◌, ◌≤◌, Bool, true, false, not, ◌&&◌, ◌⊎◌, List, length, get_or, Decides, sym, ap, ◌∙◌, inl, inr, ⊎_elim, arith}
-use Rattle.std.proofs.lemmas.Bool.{cases_lt, cases_Bool, both_ways, false≢true, not-true, not-false, not_from_false, and_parts, and_from}
-use Rattle.rows.specs.Values.{Values, Same, Empty, less}
+use Rattle.std.proofs.Common.{◌≡◌, ℕ, ◌<◌, ◌≤◌, Bool, true, false, not, ◌&&◌, ◌⊎◌, List, length, Decides, sym, ◌∙◌, inl, inr, ⊎_elim}
+use Rattle.std.proofs.lemmas.Bool.{cases_Bool, both_ways, false≢true, not-true, not_from_false, and_parts, and_from}
+use Rattle.rows.specs.Values.{Values, Empty}
 use Rattle.rows.proofs.Counts.{some_or_none}
 use Rattle.rules.specs.Books.{sets, Loses}
 use Rattle.rules.proofs.RowSets.{sets_past}

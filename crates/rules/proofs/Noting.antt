@@ -1,10 +1,10 @@
 -- Noting the fields of a scope one by one tells whether they lie below n, none twice. Assumes nothing.
-use Rattle.std.proofs.Common.{◌≡◌, ℕ, zero, suc, ◌+◌, ◌<◌, ◌≤◌, Bool, true, false, ◌||◌, eqb, ◌⊎◌, List, [], ◌∷◌, length, get_or, take, Decides, sym, refl, ap, ◌∙◌, subst, inl, inr, ⊎_elim, add-one, arith, take_all}
+use Rattle.std.proofs.Common.{◌≡◌, ℕ, zero, suc, ◌+◌, ◌<◌, ◌≤◌, true, false, ◌||◌, eqb, ◌⊎◌, List, [], ◌∷◌, length, get_or, take, Decides, sym, ◌∙◌, subst, inl, inr, ⊎_elim, add-one, arith, take_all}
 use Rattle.std.proofs.lemmas.Bool.{both_ways, or_cases, or_left, or_right, eqb-true, eq-eqb}
 use Rattle.rules.specs.Rules.{In, Distinct}
 use Rattle.rules.specs.Seen.{was_seen}
 use Rattle.rules.specs.declared.marks.Seen.{Seen}
-use Rattle.rules.proofs.Fields.{in_at, in_front, front_more, front_old, front_new, front_apart}
+use Rattle.rules.proofs.Fields.{in_at, front_more, front_old, front_new, front_apart}
 
 -- the first i fields of the scope are noted; they lie below n, none twice
 pub record Noted (seen : Seen) (scope : List ℕ) (n i : ℕ) : Type 0 where

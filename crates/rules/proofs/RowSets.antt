@@ -1,5 +1,5 @@
 -- What the rows of a list say of the sets that it reads as. Assumes nothing.
-use Rattle.std.proofs.Common.{◌≡◌, ℕ, zero, suc, ◌<◌, ◌≤◌, Bool, false, List, [], ◌∷◌, length, get_or, set, sym, refl, ap, ◌∙◌, arith}
+use Rattle.std.proofs.Common.{◌≡◌, ℕ, zero, suc, ◌<◌, ◌≤◌, false, List, [], ◌∷◌, length, get_or, set, sym, refl, ap, arith}
 use Rattle.rows.specs.Values.{Values}
 use Rattle.rules.specs.Books.{sets}
 

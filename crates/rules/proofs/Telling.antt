@@ -1,14 +1,14 @@
 -- What a book tells of a rule says whether the rule is lawful. Assumes nothing.
-use Rattle.std.proofs.Common.{◌≡◌, ℕ, zero, suc, ◌+◌, ◌<◌, ◌≤◌, Bool, true, false, cond, not, ◌&&◌, eqb, ltb, leb, ◌⊎◌, List, [], ◌∷◌, length, get_or, sym, refl, ap, ◌∙◌, subst, inl, inr, ⊎_elim, arith}
+use Rattle.std.proofs.Common.{◌≡◌, ℕ, zero, suc, ◌<◌, ◌≤◌, true, false, eqb, ◌⊎◌, List, [], ◌∷◌, length, get_or, sym, refl, ap, ◌∙◌, subst, inl, inr, ⊎_elim, arith}
 use Rattle.std.proofs.lemmas.List.{get_or_default}
-use Rattle.std.proofs.lemmas.Bool.{cases_eq, cases_lt, cases_Bool, eq-eqb, ne_eqb, cond-true, cond-false, both_ways, le-leb}
+use Rattle.std.proofs.lemmas.Bool.{cases_eq, cases_lt, cases_Bool, eq-eqb, ne_eqb, cond-true, cond-false}
 use Rattle.std.proofs.lemmas.Bool.Decides.{nat_tests}
 use Rattle.rows.specs.Values.{Values, how_many, without}
 use Rattle.rows.proofs.Counts.{how_many_le, how_many_same, how_many_without, without_other, without_same}
 use Rattle.rules.specs.Books.{no_rule, rule_at, told, told_count, told_size, told_field}
 use Rattle.rules.specs.Rules.{Rule, In, Distinct, EachRule, LawfulRule}
 use Rattle.rules.specs.Tree.{member}
-use Rattle.rules.proofs.Lists.{member_true, member_in}
+use Rattle.rules.proofs.Lists.{member_in}
 
 -- the fields of a list, as a set
 abbrev named : List ℕ → Values

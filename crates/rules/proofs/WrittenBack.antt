@@ -1,8 +1,8 @@
 -- Rows written back field by field come to a narrowing. Assumes nothing.
-use Rattle.std.proofs.Common.{◌≡◌, ℕ, zero, ◌+◌, ◌<◌, Bool, true, false, not, ◌||◌, ◌⊎◌, List, [], ◌∷◌, ◌++◌, length, get_or, take, set, Decides, sym, refl, ap, ◌∙◌, subst, inl, inr, ⊎_elim, arith, length-set, take_all, get_or-set_other}
-use Rattle.std.proofs.lemmas.Bool.{cases_Bool, cases_eq, both_ways, false≢true, or_cases, or_left, or_right}
+use Rattle.std.proofs.Common.{◌≡◌, ℕ, ◌+◌, ◌<◌, Bool, true, false, ◌||◌, ◌⊎◌, List, [], ◌∷◌, ◌++◌, length, get_or, take, set, Decides, sym, refl, ◌∙◌, subst, inl, inr, ⊎_elim, arith, length-set, take_all, get_or-set_other}
+use Rattle.std.proofs.lemmas.Bool.{cases_Bool, both_ways, false≢true, or_cases, or_left, or_right}
 use Rattle.rows.specs.Values.{Values}
-use Rattle.rules.specs.Books.{sets, Loses, Changed, Narrowing}
+use Rattle.rules.specs.Books.{sets, Loses, Narrowing}
 use Rattle.rules.specs.Writes.{Written}
 use Rattle.rules.specs.Rules.{Sets, Rule, In, Distinct, Supported}
 use Rattle.rules.proofs.Fields.{front_more, front_old, front_new, front_apart, in_front}

@@ -1,6 +1,6 @@
 -- Rings: rules that are joined in a circle by the fields that they share.
 -- Assumes nothing.
-use Rattle.std.specs.Prelude.{◌≡◌, ℕ, ◌+◌, ◌<◌, ◌≤◌, cond, List, [], ◌∷◌, map, length, ◌==◌, slice_index, slice_index_or}
+use Rattle.std.specs.Prelude.{◌≡◌, ℕ, ◌+◌, ◌<◌, ◌≤◌, cond, List, [], map, length, ◌==◌, slice_index, slice_index_or}
 use Rattle.rules.specs.Rules.{Rule, In, Distinct}
 
 -- the scope of the rule at a place; past the end, no field

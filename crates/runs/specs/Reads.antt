@@ -1,6 +1,6 @@
 -- The set that a list of runs reads as.
 -- Assumes nothing.
-use Rattle.std.specs.Prelude.{ℕ, min, Bool, false, ◌&&◌, ◌||◌, List, [], ◌∷◌, take, nat_le, nat_lt}
+use Rattle.std.specs.Prelude.{min, false, ◌&&◌, ◌||◌, List, [], ◌∷◌, take, nat_le, nat_lt}
 use Rattle.rows.specs.Values.{Values}
 use Rattle.rows.specs.declared.run.Run.{Run}
 use Rattle.runs.specs.declared.record.Runs.{Runs}

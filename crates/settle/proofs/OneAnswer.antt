@@ -1,6 +1,6 @@
 -- Two settlings of the same sets agree. Assumes nothing.
-use Rattle.std.proofs.Common.{◌≡◌, ℕ, suc, ◌<◌, ◌⊎◌, List, [], ◌∷◌, sym, refl, ap, ◌∙◌, subst, inl, inr, ⊎_elim}
-use Rattle.rules.specs.Rules.{Sets, Rule, In, EachRule, LawfulRule, Lawful, Supported, Narrowed}
+use Rattle.std.proofs.Common.{◌≡◌, ℕ, suc, List, [], ◌∷◌, sym, refl, ap, ◌∙◌, ⊎_elim}
+use Rattle.rules.specs.Rules.{Sets, Rule, EachRule, LawfulRule, Supported, Narrowed}
 use Rattle.settle.specs.Rounds.{Round, Rounds, last, more, SomeEmpty, AllEmpty, SameSets, Settling, at_once, emptied, ringed, ringless}
 use Rattle.settle.specs.Theorems.{OneSettling}
 use Rattle.settle.specs.declared.outcome.Grade.{Grade}

@@ -1,8 +1,8 @@
 -- Labels from the last rule to the first tell whether rules have a ring. Assumes nothing.
-use Rattle.std.proofs.Common.{◌≡◌, ℕ, zero, suc, ◌-◌, ◌<◌, ◌≤◌, Bool, true, false, cond, List, [], ◌∷◌, map, length, drop, sym, refl, ap, ◌∙◌, subst, ap₂, inl, inr, arith, drop_of_length-le}
+use Rattle.std.proofs.Common.{◌≡◌, ℕ, zero, suc, ◌<◌, ◌≤◌, true, false, cond, List, [], ◌∷◌, map, length, drop, sym, refl, ap, ◌∙◌, subst, ap₂, inl, inr, arith, drop_of_length-le}
 use Rattle.rules.specs.Books.{rule_at}
 use Rattle.rules.specs.Rings.{Ring}
-use Rattle.rules.specs.Rules.{Rule, In, Distinct, EachRule, LawfulRule, Lawful}
+use Rattle.rules.specs.Rules.{Rule, In, Distinct, LawfulRule, Lawful}
 use Rattle.rules.specs.Tree.{member, merge, labels, Tree}
 use Rattle.rules.proofs.Decided.{rings_decided}
 use Rattle.rules.proofs.Lists.{map_same}

@@ -1,6 +1,6 @@
 -- What rounds keep, what they take, and where they end. Assumes nothing.
 use Rattle.std.proofs.Common.{◌≡◌, ℕ, ◌+◌, ◌<◌, ◌≤◌, true, false, ◌⊎◌, List, [], ◌∷◌, sym, refl, ◌∙◌, subst, inl, inr, ⊎_elim, arith}
-use Rattle.std.proofs.lemmas.Bool.{cases_Bool, both_ways}
+use Rattle.std.proofs.lemmas.Bool.{cases_Bool}
 use Rattle.rows.proofs.Counts.{some_or_none}
 use Rattle.rules.specs.Rules.{Sets, Rule, In, EachRule, LawfulRule, Supported, Narrowed, StandsBy, Standing, Within}
 use Rattle.rules.proofs.Extend.{narrowing_keeps}

@@ -1,8 +1,8 @@
 -- What settling leaves is the largest standing choice, and without a ring the values of full settings. Assumes nothing.
-use Rattle.std.proofs.Common.{◌≡◌, ℕ, zero, suc, ◌+◌, ◌<◌, ◌≤◌, true, false, eqb, ◌⊎◌, List, [], ◌∷◌, sym, refl, subst, inl, inr, arith}
+use Rattle.std.proofs.Common.{◌≡◌, ℕ, zero, suc, ◌+◌, ◌<◌, ◌≤◌, true, eqb, ◌⊎◌, List, [], ◌∷◌, sym, refl, subst, inl, inr, arith}
 use Rattle.std.proofs.lemmas.Bool.{eqb-true, eq-eqb, both_ways}
 use Rattle.rules.specs.Rings.{Ring}
-use Rattle.rules.specs.Rules.{Sets, Rule, In, Lawful, Allowed, StandsBy, Setting, Inside, Standing, Within}
+use Rattle.rules.specs.Rules.{Sets, Rule, Lawful, Allowed, StandsBy, Setting, Inside, Standing, Within}
 use Rattle.rules.proofs.Extend.{ringless_extends}
 use Rattle.rules.proofs.Labels.{each_map}
 use Rattle.rules.proofs.Lists.{some_in}

@@ -1,5 +1,5 @@
 -- The blocks of a table's first axis. Assumes nothing.
-use Rattle.std.proofs.Common.{◌≡◌, ℕ, zero, suc, ◌+◌, ◌-◌, ◌*◌, ◌/◌, ◌<◌, ◌≤◌, Bool, true, false, ◌&&◌, leb, List, [], ◌∷◌, map, length, get_or, take, drop, sym, refl, ap, ◌∙◌, subst, subst₂, inl, inr, mul-le-mul_right, suc-mul, mul_comm, mul-div_cancel, arith, length-drop, take_all}
+use Rattle.std.proofs.Common.{◌≡◌, ℕ, suc, ◌+◌, ◌-◌, ◌*◌, ◌/◌, ◌<◌, ◌≤◌, true, false, leb, List, [], ◌∷◌, length, get_or, take, drop, sym, refl, ap, ◌∙◌, subst, subst₂, inl, inr, mul-le-mul_right, suc-mul, mul_comm, mul-div_cancel, arith, length-drop, take_all}
 use Rattle.std.proofs.lemmas.Bool.{and_parts, leb-true}
 use Rattle.rows.specs.Values.{Values}
 use Rattle.rules.specs.Rules.{Sets, In}
@@ -8,7 +8,7 @@ use Rattle.tables.specs.declared.record.Axis.{Axis}
 use Rattle.tables.specs.declared.record.Cell.{Cell}
 use Rattle.tables.specs.declared.record.Cell.TheVariants.{Constant}
 use Rattle.tables.specs.Reads.{room, block, positive, cell_fields}
-use Rattle.tables.specs.Scans.{Rests, unmarked, Reaches, Swept, Scannable, NotedHits, both_hits}
+use Rattle.tables.specs.Scans.{Rests, Reaches, Swept, Scannable, NotedHits, both_hits}
 use Rattle.tables.proofs.Picking.{block_length, block_fields}
 use Rattle.tables.proofs.Sweeping.{Under, closed_block, all_blocks, next_block}
 

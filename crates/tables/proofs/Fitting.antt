@@ -1,7 +1,7 @@
 -- A table that reads well, and whose rule is lawful, can be narrowed; what narrowing it then promises. Assumes nothing.
-use Rattle.std.proofs.Common.{◌≡◌, ℕ, ◌-◌, ◌≤◌, Bool, true, List, length, take, Ok, sym, ap, ◌∙◌, subst, arith, length-take}
+use Rattle.std.proofs.Common.{◌≡◌, ℕ, ◌-◌, ◌≤◌, Bool, List, length, take, Ok, sym, ap, ◌∙◌, subst, arith, length-take}
 use Rattle.rows.specs.Values.{Values}
-use Rattle.rules.specs.Books.{sets, rule_at, Narrowing, Narrows}
+use Rattle.rules.specs.Books.{rule_at, Narrowing, Narrows}
 use Rattle.rules.specs.Rules.{Sets, Rule, Distinct, LawfulRule, Narrowed}
 use Rattle.tables.specs.Closure.{Closes}
 use Rattle.tables.specs.declared.record.Tables.{Tables}

@@ -1,5 +1,5 @@
 -- What is left of a table's rows is exactly what is supported. Assumes nothing.
-use Rattle.std.proofs.Common.{◌≡◌, ℕ, zero, suc, ◌+◌, ◌<◌, ◌≤◌, Bool, true, false, cond, not, ◌&&◌, eqb, ◌⊎◌, List, [], ◌∷◌, ◌++◌, length, get_or, sym, refl, ap, ◌∙◌, subst, inl, inr, ⊎_elim, arith}
+use Rattle.std.proofs.Common.{◌≡◌, ℕ, zero, suc, ◌+◌, ◌<◌, Bool, true, not, ◌&&◌, eqb, List, [], ◌∷◌, ◌++◌, length, get_or, sym, refl, ap, ◌∙◌, subst, inl, inr, ⊎_elim, arith}
 use mathlib.Core.Path.{fun_ext}
 use Rattle.std.proofs.lemmas.List.{length-map}
 use Rattle.std.proofs.lemmas.Bool.{cases_eq, cond-true, cond-false, eq-eqb, ne_eqb, false≢true}
@@ -19,7 +19,7 @@ use Rattle.tables.specs.Reads.{cell_fields, table_scope, lookup_rule}
 use Rattle.tables.specs.Scans.{Rests, unmarked, Reaches, Hit, Tells, Swept, Scannable}
 use Rattle.tables.proofs.Exact.{axis_at, cell_new, no_hits, cell_exact, cell_exact_back, x_exact, x_exact_back, axis_exact, axis_exact_back}
 use Rattle.tables.proofs.Lines.{axis_fields, reached_field}
-use Rattle.tables.proofs.Picking.{axis_in_scope, cell_in_scope}
+use Rattle.tables.proofs.Picking.{cell_in_scope}
 
 -- the place of a field in a list
 place : (xs : List ℕ) (f : ℕ) → In f xs → (i : ℕ) × (i < length xs) × (get_or xs i 0 ≡ f)

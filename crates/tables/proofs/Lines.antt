@@ -1,11 +1,11 @@
 -- A cell that open index values reach, and that has a value of x, makes an allowed line. Assumes nothing.
-use Rattle.std.proofs.Common.{◌≡◌, ℕ, ◌<◌, Bool, true, false, cond, ◌&&◌, eqb, ltb, ◌⊎◌, List, [], ◌∷◌, ◌++◌, map, sym, refl, ap, ◌∙◌, subst, ap₂, inl, inr, ⊎_elim, arith}
+use Rattle.std.proofs.Common.{◌≡◌, ℕ, true, cond, eqb, ltb, ◌⊎◌, List, [], ◌∷◌, ◌++◌, map, sym, refl, ap, ◌∙◌, subst, ap₂, inl, inr, ⊎_elim, arith}
 use Rattle.std.proofs.lemmas.Bool.{cases_eq, cond-true, cond-false, eq-eqb, eqb-true, ne_eqb, lt-ltb, and_from}
 use Rattle.rules.specs.Rules.{Sets, In, Distinct}
 use Rattle.tables.specs.declared.record.Axis.{Axis}
 use Rattle.tables.specs.declared.record.Cell.{Cell}
 use Rattle.tables.specs.declared.record.Cell.TheVariants.{Constant, Field}
-use Rattle.tables.specs.Reads.{room, block, picked, cell_value, equals_cell, below_extents, indices, cell_fields, table_scope, table_test}
+use Rattle.tables.specs.Reads.{room, picked, cell_value, equals_cell, below_extents, indices, cell_fields, table_scope, table_test}
 use Rattle.tables.specs.Scans.{cell_has, Reaches, here, there}
 use Rattle.tables.proofs.Picking.{reached, block_fields}
 

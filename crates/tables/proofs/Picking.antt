@@ -1,13 +1,13 @@
 -- What a table's line selects. Assumes nothing.
-use Rattle.std.proofs.Common.{◌≡◌, ℕ, zero, suc, ◌+◌, ◌*◌, ◌<◌, ◌≤◌, Bool, true, false, ◌&&◌, eqb, ltb, ◌⊎◌, List, [], ◌∷◌, ◌++◌, map, length, take, drop, sym, refl, ap, ◌∙◌, subst, ap₂, inl, inr, mul-le-mul_right, suc-mul, arith, length-drop, length-take}
-use Rattle.std.proofs.lemmas.Bool.{and_parts, and_from, ltb-true, eqb-true}
-use Rattle.rules.specs.Rules.{Sets, Rule, In, Allowed}
+use Rattle.std.proofs.Common.{◌≡◌, ℕ, zero, suc, ◌+◌, ◌*◌, ◌<◌, ◌≤◌, true, ◌&&◌, eqb, ltb, List, [], ◌∷◌, ◌++◌, map, length, take, drop, refl, ap, ◌∙◌, ap₂, inl, inr, mul-le-mul_right, suc-mul, arith, length-drop, length-take}
+use Rattle.std.proofs.lemmas.Bool.{and_parts, ltb-true}
+use Rattle.rules.specs.Rules.{Sets, In}
 use Rattle.rules.proofs.Given.{given_line}
 use Rattle.tables.specs.declared.record.Axis.{Axis}
 use Rattle.tables.specs.declared.record.Cell.{Cell}
 use Rattle.tables.specs.declared.record.Cell.TheVariants.{Constant, Field}
 use Rattle.tables.specs.Scans.{Reaches, here, there}
-use Rattle.tables.specs.Reads.{room, block, picked, cell_value, equals_cell, below_extents, indices, cell_fields, table_scope, table_test, lookup_rule}
+use Rattle.tables.specs.Reads.{room, block, picked, equals_cell, below_extents, indices, cell_fields, table_scope, table_test, lookup_rule}
 
 -- ---- which fields a selection can name
 

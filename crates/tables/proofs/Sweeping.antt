@@ -1,6 +1,6 @@
 -- A pass over a table's cells, part by part. Assumes nothing.
-use Rattle.std.proofs.Common.{◌≡◌, ℕ, zero, suc, ◌+◌, ◌<◌, ◌≤◌, Bool, true, false, not, ◌&&◌, eqb, ◌⊎◌, List, [], ◌∷◌, get_or, sym, refl, ap, ◌∙◌, subst, ap₂, inl, inr, ⊎_elim, add-zero, add-suc, arith}
-use Rattle.std.proofs.lemmas.Bool.{cases_Bool, cases_eq, cases_lt, both_ways, false≢true, true≢false, and_left, and_right, and_cases, and_parts, not-false, not_from_true, eqb-true, eq-eqb, and_from}
+use Rattle.std.proofs.Common.{◌≡◌, ℕ, zero, suc, ◌+◌, ◌<◌, ◌≤◌, true, false, not, ◌&&◌, eqb, ◌⊎◌, List, [], ◌∷◌, get_or, sym, refl, ap, ◌∙◌, subst, inl, inr, ⊎_elim, add-zero, arith}
+use Rattle.std.proofs.lemmas.Bool.{cases_eq, both_ways, false≢true, and_left, and_right, and_cases, and_parts, not-false, not_from_true, eqb-true, eq-eqb, and_from}
 use Rattle.rows.specs.Values.{Values, Meet}
 use Rattle.rules.specs.Rules.{Sets}
 use Rattle.tables.specs.declared.found.Hits.{Hits}

@@ -1,15 +1,13 @@
 -- What narrowing by a table leaves of each row.
 -- Assumes nothing.
-use Rattle.std.specs.Prelude.{◌≡◌, ℕ, suc, ◌<◌, false, cond, not, ◌&&◌, List, [], ◌∷◌, ◌++◌, map, length, Option, MatchOption, ◌==◌}
+use Rattle.std.specs.Prelude.{◌≡◌, ℕ, suc, ◌<◌, false, cond, not, ◌&&◌, List, [], ◌∷◌, ◌++◌, map, Option, MatchOption, ◌==◌}
 use Rattle.rows.specs.Values.{Values}
-use Rattle.rules.specs.Books.{sets}
 use Rattle.rules.specs.Rules.{Sets, In, Distinct}
 use Rattle.tables.specs.declared.found.Hits.{Hits}
 use Rattle.tables.specs.declared.found.Hits.TheVariants.{Nothing, Only, Several}
 use Rattle.tables.specs.declared.found.Marks.{Marks}
 use Rattle.tables.specs.Scans.{Rests, unmarked}
 use Rattle.tables.specs.declared.record.Axis.{Axis}
-use Rattle.tables.specs.declared.record.Cell.{Cell}
 use Rattle.tables.specs.declared.record.Cell.TheVariants.{Constant, Field}
 
 -- each field has a row, and none stands twice

@@ -1,4 +1,4 @@
-use Rattle.std.proofs.Common.{not, sym, refl, ap, ◌∙◌}
+use Rattle.std.proofs.Common.{◌∙◌}
 use Rattle.std.proofs.lemmas.Bool.{both_ways, not_from_false}
 use Rattle.draft.proofs.Noting.{field_noted, noted_distinct}
 use Rattle.draft.proofs.heads.head_is_apart.Goals as goal

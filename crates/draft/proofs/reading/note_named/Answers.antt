@@ -1,4 +1,4 @@
-use Rattle.std.proofs.Common.{◌≡◌, ◌+◌, true, false, drop, None, sym, ap, ◌∙◌, subst}
+use Rattle.std.proofs.Common.{◌≡◌, ◌+◌, true, false, drop, None, sym, subst}
 use Rattle.draft.specs.Lists.{pairs, named}
 use Rattle.draft.specs.Reading.{IsNamed, NotesNew}
 use Rattle.draft.proofs.Noting.{nothing_noted, field_noted, field_old}

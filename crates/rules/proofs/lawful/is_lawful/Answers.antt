@@ -1,4 +1,4 @@
-use Rattle.std.proofs.Common.{◌≡◌, length, refl, arith, below_more}
+use Rattle.std.proofs.Common.{refl, arith, below_more}
 use Rattle.std.proofs.lemmas.Bool.{false≢true}
 use Rattle.rules.specs.Rules.{LawfulRule}
 use Rattle.rules.proofs.Telling.{whole_count, each_by_place, place_by_each}

@@ -1,4 +1,4 @@
-use Rattle.std.proofs.Common.{◌≡◌, true, subst, inl, inr, arith}
+use Rattle.std.proofs.Common.{true, subst, inl, inr, arith}
 use Rattle.std.proofs.lemmas.Bool.{both_ways}
 use Rattle.rules.specs.Books.{sets}
 use Rattle.settle.specs.Passes.{Passed}

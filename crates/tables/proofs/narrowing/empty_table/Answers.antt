@@ -1,7 +1,7 @@
-use Rattle.std.proofs.Common.{◌≡◌, ◌||◌, [], ◌∷◌, ◌++◌, map, length, sym, refl, ap, ◌∙◌, subst, inl, inr, arith, length-set}
+use Rattle.std.proofs.Common.{◌≡◌, ◌||◌, [], ◌∷◌, map, length, refl, ap, ◌∙◌, inl, inr, arith, length-set}
 use Rattle.std.proofs.lemmas.Bool.Decides.{nat_tests}
 use Rattle.tables.specs.Left.{none_left}
-use Rattle.tables.specs.Reads.{cell_fields, table_scope}
+use Rattle.tables.specs.Reads.{cell_fields}
 use Rattle.rules.proofs.WrittenBack.{one_written, written_append, halves_apart, in_first, in_second, first_distinct, second_distinct}
 use Rattle.tables.proofs.narrowing.empty_table.Goals as goal
 

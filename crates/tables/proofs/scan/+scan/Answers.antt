@@ -1,9 +1,8 @@
-use Rattle.std.proofs.Common.{◌≡◌, ℕ, ◌+◌, ◌*◌, ◌/◌, ◌<◌, ◌≤◌, [], ◌∷◌, length, get_or, drop, sym, refl, ap, ◌∙◌, subst, ap₂, subst₂, arith, rules}
+use Rattle.std.proofs.Common.{◌≡◌, ◌+◌, length, get_or, drop, sym, refl, ap, ◌∙◌, subst, ap₂, subst₂, arith, rules}
 use Rattle.rules.specs.Books.{sets}
 use Rattle.rules.specs.Rules.{In}
 use Rattle.rules.proofs.RowSets.{sets_at}
-use Rattle.tables.specs.declared.record.Cell.TheVariants.{Constant}
-use Rattle.tables.specs.Reads.{cell_fields, room, block}
+use Rattle.tables.specs.Reads.{cell_fields}
 use Rattle.tables.specs.Scans.{Reaches, Swept, Scannable, rests_of}
 use Rattle.tables.proofs.Blocks.{no_axis, first_axis, one_cell_left, first_row, extent_positive, block_within, one_scanned, part_scannable, block_closed, block_joined, blocks_done}
 use Rattle.tables.proofs.Sweeping.{Under}

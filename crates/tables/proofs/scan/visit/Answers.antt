@@ -1,12 +1,11 @@
-use Rattle.std.proofs.Common.{◌≡◌, ℕ, ◌<◌, cond, not, ◌&&◌, [], ◌∷◌, length, get_or, Decides, sym, refl, ap, ◌∙◌, subst, inl, arith}
-use Rattle.rows.specs.Values.{Meet, both}
+use Rattle.std.proofs.Common.{◌<◌, not, ◌&&◌, [], ◌∷◌, length, sym, refl, ap, ◌∙◌, subst, inl, arith}
 use Rattle.rules.specs.Books.{sets}
 use Rattle.rules.specs.Rules.{In}
 use Rattle.rules.proofs.RowSets.{sets_at}
 use Rattle.tables.specs.declared.record.Cell.TheVariants.{Constant, Field}
 use Rattle.tables.specs.Reads.{cell_fields}
-use Rattle.tables.specs.Scans.{cell_has, Reaches, Swept, rests_of}
-use Rattle.tables.proofs.Levels.{constant_meets, visited, visited_as}
+use Rattle.tables.specs.Scans.{rests_of}
+use Rattle.tables.proofs.Levels.{constant_meets, visited_as}
 use Rattle.tables.proofs.scan.visit.Goals as goal
 
 pub offset_bounds-rows-f : goal.offset_bounds-rows-f

@@ -1,4 +1,4 @@
-use Rattle.std.proofs.Common.{◌≡◌, ℕ, zero, suc, false, ◌&&◌, ltb, get_or, replicate, refl, ap, ◌∙◌}
+use Rattle.std.proofs.Common.{◌≡◌, ℕ, zero, suc, false, ltb, get_or, replicate, refl}
 use Rattle.std.proofs.lemmas.Bool.{and_right}
 use Rattle.rules.proofs.marks.Seen.none.Goals as goal
 
