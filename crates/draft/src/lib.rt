@@ -6,7 +6,7 @@ mod book;
 mod cells;
 pub mod fault;
 mod fields;
-mod frames;
+mod frame_parts;
 mod heads;
 pub mod memory;
 mod pairs;

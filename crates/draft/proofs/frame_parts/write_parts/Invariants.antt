@@ -1,7 +1,7 @@
 use Rattle.std.proofs.Common.{◌≡◌, ◌+◌, map, drop}
 use Rattle.draft.specs.Lists.{pairs, part_of}
 use Rattle.draft.specs.Memory.{overlay}
-use Rattle.draft.proofs.frames.write_parts.Given as goal
+use Rattle.draft.proofs.frame_parts.write_parts.Given as goal
 
 -- writing what is left makes it whole
 abbrev pub invariant-loop-i : goal.invariant-loop-i

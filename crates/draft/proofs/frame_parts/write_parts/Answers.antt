@@ -2,7 +2,7 @@ use Rattle.std.proofs.Common.{map, sym, ◌∙◌}
 use Rattle.draft.specs.Lists.{pairs, part_of}
 use Rattle.draft.proofs.Overlaying.{overlay_start, overlay_more, overlay_all}
 use Rattle.draft.proofs.PairSteps.{mapped_from, mapped_over}
-use Rattle.draft.proofs.frames.write_parts.Goals as goal
+use Rattle.draft.proofs.frame_parts.write_parts.Goals as goal
 
 pub loop-i-init : goal.loop-i-init
 loop-i-init c = overlay_start (map part_of (pairs c.args.list.now)) c.args.at c.args.parts.now
