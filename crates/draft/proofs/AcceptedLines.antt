@@ -42,8 +42,8 @@ pub record Long (d : Draft) (rows : ℕ) (m : Held) : Type 0 where
   pub parts_long : d.parts ≤ length m.parts
 
 pub long_enough : (d : Draft) (rows : ℕ) (m : Held) → short d rows m ≡ false → Long d rows m
-long_enough d rows m not_IsShort =
-    let one = or_parts _ _ not_IsShort in
+long_enough d rows m not_short =
+    let one = or_parts _ _ not_short in
     let two = or_parts _ _ one.1 in
     let three = or_parts _ _ two.1 in
     let four = or_parts _ _ three.1 in
