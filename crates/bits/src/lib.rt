@@ -56,7 +56,7 @@ impl Bits {
 }
 
 impl Row for Bits {
-    ghost span = { 256 };
+    ghost SPAN = { 256 };
 
     ghost values = { bits_have };
 
@@ -67,10 +67,6 @@ impl Row for Bits {
     ghost small = { Prim.search rules };
 
     ghost inside = { Prim.search rules };
-
-    fn value_count() -> usize {
-        Self::SPAN
-    }
 
     fn make(lo: u8, hi: u8) -> Bits {
         first_values(hi as usize + 1).minus(first_values(lo as usize))

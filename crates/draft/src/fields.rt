@@ -55,7 +55,7 @@ impl Draft {
 
     // What is wrong with entering a field.
     fn field_fault<R: Row>(&self, rows: &[R], memory: &Memory, lo: u8, hi: u8) -> Option<DraftFault>
-        ensures { result ≡ uppermost (field_lines R.Row.span self.now (length rows.now) (held memory.now) lo hi) }
+        ensures { result ≡ uppermost (field_lines R.Row.SPAN self.now (length rows.now) (held memory.now) lo hi) }
     {
         if self.is_short(rows.len(), memory) {
             return Some(DraftFault::Short);
@@ -63,7 +63,7 @@ impl Draft {
         if self.lacking_cells() > 0 {
             return Some(DraftFault::Misplaced);
         }
-        if lo > hi || hi as usize >= R::value_count() {
+        if lo > hi || hi as usize >= R::SPAN {
             return Some(DraftFault::BadRange);
         }
         if self.fields >= FIELDS
@@ -83,7 +83,7 @@ impl Draft {
         lo: u8,
         hi: u8,
     ) -> Result<Draft, Refused>
-        ensures { EntersField R.Row.values R.Row.span self lo hi rows.old rows.new (held memory.old) (held memory.new) result }
+        ensures { EntersField R.Row.values R.Row.SPAN self lo hi rows.old rows.new (held memory.old) (held memory.new) result }
     {
         if let Some(fault) = self.field_fault(rows, memory, lo, hi) {
             return Err(Refused { draft: self, fault });

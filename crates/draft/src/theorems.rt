@@ -6,5 +6,5 @@ use rows::Row;
 
 // Its rows read as the entered ranges, and its own book is lawful for its fields.
 pub fn drafts_are_sound<R: Row>()
-    ensures { DraftsSound R R.Row.values R.Row.span }
+    ensures { DraftsSound R R.Row.values R.Row.SPAN }
 {}

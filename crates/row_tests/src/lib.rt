@@ -13,7 +13,7 @@ use rows::{OrderedRow, Row};
 use switch::Switch;
 
 impl Row for Switch {
-    ghost span = { 2 };
+    ghost SPAN = { 2 };
 
     ghost values = { switch_has };
 
@@ -24,10 +24,6 @@ impl Row for Switch {
     ghost small = { Prim.search rules };
 
     ghost inside = { Prim.search rules };
-
-    fn value_count() -> usize {
-        Self::SPAN
-    }
 
     fn make(lo: u8, hi: u8) -> Switch {
         Switch {

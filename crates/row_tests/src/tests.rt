@@ -11,7 +11,7 @@ const EDGES: [u8; 9] = [0, 1, 62, 63, 64, 127, 128, 254, 255];
 
 // Whether the row made from lo to hi should have v.
 fn wanted<R: Row>(lo: u8, hi: u8, v: u8) -> bool {
-    (hi as usize) < R::value_count() && lo <= v && v <= hi
+    (hi as usize) < R::SPAN && lo <= v && v <= hi
 }
 
 // The row has the values from lo to hi and no others, and says so in every way.
@@ -77,7 +77,7 @@ fn pairs_hold<R: OrderedRow>(rt: &impl Abort) {
 // One kind through all of it.
 fn drives<R: OrderedRow>(rt: &impl Abort, span: usize) {
     assert_eq!(rt; R::SPAN, span);
-    assert_eq!(rt; R::value_count(), span);
+    assert_eq!(rt; R::SPAN, span);
     ranges_hold::<R>(rt);
     pairs_hold::<R>(rt);
 }

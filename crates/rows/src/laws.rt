@@ -5,5 +5,5 @@ use crate::Row;
 
 // Every kind keeps the laws. There is nothing to compute: the contract is the theorem.
 pub fn laws_hold<R: Row>()
-    ensures { Laws R R.Row.span R.Row.values }
+    ensures { Laws R R.Row.SPAN R.Row.values }
 {}

@@ -12,22 +12,17 @@ pub mod listing;
 pub mod run;
 
 pub trait Row: Copy {
-    // How many values a record can hold: the numbers below it.
-    ghost span: { ℕ };
-
     // The set that a record reads as.
     ghost values: { Self → Values };
 
-    // The span, for code that names its kind.
+    // The span: how many values a record can hold, the numbers below it.
     const SPAN: usize;
 
-    // The span, for generic code and for contracts, which cannot name an associated constant.
-    fn value_count() -> usize
-        ensures { result ≡ span };
+    ghost SPAN: { ℕ };
 
     // All values from lo to hi; none if lo is above hi, or hi is not below the span.
     fn make(lo: u8, hi: u8) -> Self
-        ensures { Same (values result) (from_to span lo hi) };
+        ensures { Same (values result) (from_to SPAN lo hi) };
 
     // Whether the row has the value.
     fn has(self, v: u8) -> bool
@@ -47,14 +42,14 @@ pub trait Row: Copy {
 
     // How many values the row has.
     fn size(self) -> usize
-        ensures { result ≡ how_many span (values self) };
+        ensures { result ≡ how_many SPAN (values self) };
 
     // The values that the other row does not have.
     fn minus(self, other: Self) -> Self
         ensures { Same (values result) (less (values self) (values other)) }
     {
         let mut left = self;
-        for v in 0..Self::value_count() {
+        for v in 0..Self::SPAN {
             if other.has(v as u8) {
                 left = left.without(v as u8);
             }
@@ -67,7 +62,7 @@ pub trait Row: Copy {
         ensures { Same (values result) (up_to (values self) v) }
     {
         // The range has to end below the span: one that does not is empty.
-        let last = Self::value_count() - 1;
+        let last = Self::SPAN - 1;
         let top = if (v as usize) < last { v } else { last as u8 };
         self.common(Self::make(0, top))
     }
@@ -79,11 +74,11 @@ pub trait Row: Copy {
         self.size() == 0
     }
 
-    ghost positive: { 0 < span };
+    ghost positive: { 0 < SPAN };
 
-    ghost small: { span ≤ 256 };
+    ghost small: { SPAN ≤ 256 };
 
-    ghost inside: { (r : Self) (v : ℕ) → values r v ≡ true → v < span };
+    ghost inside: { (r : Self) (v : ℕ) → values r v ≡ true → v < SPAN };
 }
 
 // A kind that also tells its least and its greatest value.

@@ -12,7 +12,7 @@ fn rest_of<R: OrderedRow>(row: R, from: usize) -> R
     if from == 0 {
         return row;
     }
-    let last = R::value_count() - 1;
+    let last = R::SPAN - 1;
     let under = if from <= last { from - 1 } else { last };
     row.minus(R::make(0, under as u8))
 }
@@ -22,7 +22,7 @@ pub fn next_run<R: OrderedRow>(row: R, from: usize) -> Option<Run>
     ensures { NextRun (R.Row.values row) from result }
 {
     let low = rest_of(row, from).least()?;
-    let last = (R::value_count() - 1) as u8;
+    let last = (R::SPAN - 1) as u8;
     let high = match R::make(low, last).minus(row).least() {
         Some(gap) => gap - 1,
         None => last,

@@ -53,7 +53,7 @@ impl Runs {
 }
 
 impl Row for Runs {
-    ghost span = { 128 };
+    ghost SPAN = { 128 };
 
     ghost values = { runs_have };
 
@@ -64,10 +64,6 @@ impl Row for Runs {
     ghost small = { Prim.search rules };
 
     ghost inside = { Prim.search rules };
-
-    fn value_count() -> usize {
-        Self::SPAN
-    }
 
     fn make(lo: u8, hi: u8) -> Runs {
         // A run that ends before it begins has no value.

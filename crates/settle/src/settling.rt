@@ -15,7 +15,7 @@ pub fn settle<R: Row, B: Book<R>>(
     n: usize,
     rows: &mut [R],
 ) -> Result<Outcome, NarrowFault>
-    ensures { Settles R.Row.values R.Row.span (B.Book.rules book.now) n rows.old rows.new result }
+    ensures { Settles R.Row.values R.Row.SPAN (B.Book.rules book.now) n rows.old rows.new result }
 {
     if n > rows.len() || !is_lawful(book, n) {
         return Err(NarrowFault::Unfit);

@@ -20,7 +20,7 @@ fn marked<R: Row>(row: R, marks: &Marks, level: usize) -> R
     ensures { (v : ℕ) → R.Row.values result v ≡ (R.Row.values row v && not (unmarked marks.now level v)) }
 {
     let mut left = row;
-    for v in 0..R::value_count() {
+    for v in 0..R::SPAN {
         if !marks.at[level * 256 + v] {
             left = left.without(v as u8);
         }

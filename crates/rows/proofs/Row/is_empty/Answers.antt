@@ -6,7 +6,7 @@ use Rattle.rows.proofs.Row.is_empty.Goals as goal
 pub returns : goal.returns
 returns g c =
     let p = g.Self.Row.values c.args.self in
-    let n = g.Self.Row.span in (
+    let n = g.Self.Row.SPAN in (
       λ zero v. ⊎_elim
           (λ there. absurd (omega (arith, how_many_some n p v (g.met.Self.Row.inside c.args.self v there) there, c.size.ensures, eqb-true _ _ zero)))
           (λ gone. gone)

@@ -5,7 +5,7 @@ use Rattle.rows.proofs.laws.laws_hold.Goals as goal
 
 pub returns : goal.returns
 returns g c =
-    let span = g.R.Row.span in
+    let span = g.R.Row.SPAN in
     let values = g.R.Row.values in
     let met = g.met.R.Row in
     record {

@@ -17,7 +17,7 @@ returns g c =
     let lost = c.minus-lost.result in
     record {
       after = refl;
-      lost = loses values c.args.rows.now c.args.field g.R.Row.span new (values lost) c.is_empty.result (g.met.R.Row.inside lost)
+      lost = loses values c.args.rows.now c.args.field g.R.Row.SPAN new (values lost) c.is_empty.result (g.met.R.Row.inside lost)
           (λ v. c.minus-lost.ensures v ∙ ap (λ b. b && not (new v)) (sym (sets_at values c.args.rows.now c.args.field _ (omega arith) c.index-rows-field.is v)))
           c.is_empty.ensures;
     }

@@ -29,7 +29,7 @@ passed : (g : _) (c : goal.Else-any_empty-2 g) → Passed g.R.Row.values (g.B.Bo
 passed g c = subst (λ b. Passed g.R.Row.values (g.B.Book.rules c.args.book.now) c.args.n c.loop-changed.rows c.narrow_all.new.rows b) c.if-not-changed.false c.in_ok-changed.ensures
 
 pub loop-changed-smaller : goal.loop-changed-smaller
-loop-changed-smaller g c = passed_less g.R.Row.values g.R.Row.span _ _ c.args.rows.now g.met.R.Row.inside _ _ (passed g c)
+loop-changed-smaller g c = passed_less g.R.Row.values g.R.Row.SPAN _ _ c.args.rows.now g.met.R.Row.inside _ _ (passed g c)
 
 pub loop-changed-preserved : goal.loop-changed-preserved
 loop-changed-preserved g c =
@@ -40,4 +40,4 @@ pub loop-changed-init : goal.loop-changed-init
 loop-changed-init g c = going_none _ _ _ _ _
 
 pub returns-then-any_empty : goal.returns-then-any_empty
-returns-then-any_empty g c = rounded_at_once _ g.R.Row.span _ _ _ (c.any_empty.ensures.0 c.if-any_empty.true)
+returns-then-any_empty g c = rounded_at_once _ g.R.Row.SPAN _ _ _ (c.any_empty.ensures.0 c.if-any_empty.true)

@@ -42,7 +42,7 @@ loop-cell-preserved g c rest =
           let f = w.in-Field.f in
           let row = w.index-rows-f.result in
           let low = c.requires f (field_among cells i f _ within w.in-Field.is) in
-          let some = some_value g.R.Row.span (values row) (g.met.R.Row.inside row) (not_from_Decides w.is_empty.result w.is_empty.ensures w.if-is_empty.false) in
+          let some = some_value g.R.Row.SPAN (values row) (g.met.R.Row.inside row) (not_from_Decides w.is_empty.result w.is_empty.ensures w.if-is_empty.false) in
           c.loop-cell.invariant
           (each_of (λ f. (v : ℕ) × (sets values rows f v ≡ true)) f (cell_fields (drop (i + 1) cells)) (cell_fields (drop i cells)) (rest_field cells i f within w.in-Field.is)
           (some.0, sets_at values rows f row low w.index-rows-f.is some.0 ∙ some.1) rest)
