@@ -9,8 +9,10 @@ pub mod Lists
 pub mod Loops
 pub mod Losing
 pub mod MadeRules
+pub mod NewFields
 pub mod Noting
 pub mod RowSets
+pub mod Taking
 pub mod Telling
 pub mod Walks
 pub mod WrittenBack

@@ -1,6 +1,7 @@
 // Which fields have been met: for scopes in which no field may stand twice.
-ghost use Rattle.std.specs.Prelude.{◌≡◌, ℕ, false, not, ◌||◌, ◌==◌};
-ghost use Rattle.rules.specs.Seen.{was_seen};
+ghost use Rattle.std.specs.Prelude.{◌≡◌, ℕ, List, false, not, ◌||◌, ◌==◌};
+ghost use Rattle.std.specs.Iterator.{AlwaysYields, IsFinite};
+ghost use Rattle.rules.specs.Seen.{was_seen, Notes};
 
 use crate::marks::Seen;
 
@@ -29,5 +30,20 @@ impl Seen {
         let new = !self.marks[field as usize];
         self.marks[field as usize] = true;
         new
+    }
+
+    // Notes fields one after another, and says whether they all lie below n and are new. The first
+    // that does not ends it.
+    pub fn note_all<I: Iterator<Item = u8> + Drop>(&mut self, fields: I, n: usize) -> bool
+        requires can { I.can_next fields }
+        requires ends { IsFinite (I.remaining fields) }
+        ensures { (fs : List ℕ) → AlwaysYields I.next_gives (λ f. f) fields fs → Notes fs n self.old self.new result }
+    {
+        for field in fields {
+            if field as usize >= n || !self.note(field) {
+                return false;
+            }
+        }
+        true
     }
 }
