@@ -1,9 +1,9 @@
 -- Rows written back field by field come to a narrowing. Assumes nothing.
-use Rattle.std.proofs.Common.{◌≡◌, ℕ, ◌+◌, ◌<◌, Bool, true, false, ◌||◌, ◌⊎◌, List, [], ◌∷◌, ◌++◌, length, get_or, take, set, Decides, sym, refl, ◌∙◌, subst, inl, inr, ⊎_elim, arith, length-set, take_all, get_or-set_other}
+use Rattle.std.proofs.Common.{◌≡◌, ℕ, zero, suc, ◌+◌, ◌<◌, Bool, true, false, ◌||◌, ◌⊎◌, List, [], ◌∷◌, ◌++◌, length, get_or, take, set, Decides, sym, refl, ◌∙◌, subst, inl, inr, ⊎_elim, arith, length-set, take_all, get_or-set_other}
 use Rattle.std.proofs.lemmas.Bool.{cases_Bool, both_ways, false≢true, or_cases, or_left, or_right}
 use Rattle.rows.specs.Values.{Values}
 use Rattle.rules.specs.Books.{sets, Loses, Narrowing}
-use Rattle.rules.specs.Writes.{Written}
+use Rattle.rules.specs.Writes.{Written, none_left}
 use Rattle.rules.specs.Rules.{Sets, Rule, In, Distinct, Supported}
 use Rattle.rules.proofs.Fields.{front_more, front_old, front_new, front_apart, in_front}
 use Rattle.rules.proofs.Lists.{find}
@@ -245,3 +245,62 @@ module _ {R : Type 0} (values : R → Values) where
       → Narrowing values r before after changed
   some_written new scope before r after changed into keeps w =
       all_written values new r.scope before r after changed refl (written_wider new scope r.scope before after changed into keeps w)
+
+-- ---- rows emptied field by field: a field may stand twice, or have no row
+
+module _ {R : Type 0} (values : R → Values) (row : R) (empty : (v : ℕ) → values row v ≡ false) where
+  -- the field that gets an empty row has no value
+  emptied_here : (rows : List R) (f v : ℕ) → sets values (set rows f row) f v ≡ false
+  emptied_here [] f v = refl
+  emptied_here (r ∷ rs) zero v = empty v
+  emptied_here (r ∷ rs) (suc f) v = emptied_here rs f v
+
+  -- and one without a value stays without one
+  still_empty : (rows : List R) (f g v : ℕ) → sets values rows g v ≡ false → sets values (set rows f row) g v ≡ false
+  still_empty [] f g v none = refl
+  still_empty (r ∷ rs) zero zero v none = empty v
+  still_empty (r ∷ rs) zero (suc g) v none = none
+  still_empty (r ∷ rs) (suc f) zero v none = none
+  still_empty (r ∷ rs) (suc f) (suc g) v none = still_empty rs f g v none
+
+  -- one field more is emptied
+  pub more_emptied : (xs : List ℕ) (f : ℕ) (before between after : List R) (changed lost : Bool) → after ≡ set between f row → Decides lost (Loses values between f (values row))
+      → Written values none_left xs (length xs) before between changed → Written values none_left (xs ++ f ∷ []) (length (xs ++ f ∷ [])) before after (changed || lost)
+  more_emptied xs f before between after changed lost is loss w = subst (λ rows. Written values none_left (xs ++ f ∷ []) (length (xs ++ f ∷ [])) before rows (changed || lost)) (sym is) (record {
+    long = length-set between f row ∙ w.long;
+    done = λ g v h. ⊎_elim
+        (λ old. still_empty between f g v (now_new values none_left xs before between changed w g v old))
+        (λ here. subst (λ x. sets values (set between f row) x v ≡ false) (sym (only here)) (emptied_here between f v))
+        (in_either xs (f ∷ []) g (all_from (xs ++ f ∷ []) g h));
+    others = λ g d h.
+        get_or-set_other between f g row d (λ e. h (all_in (xs ++ f ∷ []) g (in_second xs (f ∷ []) g (inl e))))
+        ∙ w.others g d (λ k. h (all_in (xs ++ f ∷ []) g (in_first xs (f ∷ []) g (all_from xs g k))));
+    answer = (
+      λ e. ⊎_elim
+          (λ was. let k = w.answer.0 was in (k.0, all_in (xs ++ f ∷ []) k.0 (in_first xs (f ∷ []) k.0 (all_from xs k.0 k.1)), k.2))
+          (λ now. let k = loss.0 now in (f, all_in (xs ++ f ∷ []) f (in_second xs (f ∷ []) f (inl refl)), (k.0, sym (unwritten k.0 k.1) ∙ k.1, refl)))
+          (or_cases changed lost e),
+      λ k. ⊎_elim
+          (λ old. or_left changed lost (w.answer.1 (k.0, all_in xs k.0 old, k.2)))
+          (λ here. loses_here k.2.0 (subst (λ x. sets values before x k.2.0 ≡ true) (only here) k.2.1))
+          (in_either xs (f ∷ []) k.0 (all_from (xs ++ f ∷ []) k.0 k.1)),
+    );
+  })
+    where
+      only : {g : ℕ} → In g (f ∷ []) → g ≡ f
+      only (inl e) = e
+      only (inr h) = absurd h
+
+      -- the field has lost nothing before, where it has a value
+      unwritten : (v : ℕ) → sets values between f v ≡ true → sets values between f v ≡ sets values before f v
+      unwritten v e = ⊎_elim
+          (λ t. absurd (both_ways (sets values between f v) (now_new values none_left xs before between changed w f v (subst (λ x. In x xs) t.2 t.1)) e))
+          (λ none. still_old values none_left xs before between changed w f v (λ h. none f h refl))
+          (find (λ x. x) f xs)
+
+      -- a value of the start goes now, or went before
+      loses_here : (v : ℕ) → sets values before f v ≡ true → (changed || lost) ≡ true
+      loses_here v e = ⊎_elim
+          (λ t. or_left changed lost (w.answer.1 (f, all_in xs f (subst (λ x. In x xs) t.2 t.1), (v, e, refl))))
+          (λ none. or_right changed lost (loss.1 (v, still_old values none_left xs before between changed w f v (λ h. none f h refl) ∙ e, empty v)))
+          (find (λ x. x) f xs)

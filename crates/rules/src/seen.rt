@@ -1,7 +1,7 @@
 // Which fields have been met: for scopes in which no field may stand twice.
 ghost use Rattle.std.specs.Prelude.{◌≡◌, ℕ, List, false, not, ◌||◌, ◌==◌};
 ghost use Rattle.std.specs.Iterator.{AlwaysYields, IsFinite};
-ghost use Rattle.rules.specs.Seen.{was_seen, Notes};
+ghost use Rattle.rules.specs.Seen.{was_seen, NotesBytes};
 
 use crate::marks::Seen;
 
@@ -37,7 +37,7 @@ impl Seen {
     pub fn note_all<I: Iterator<Item = u8> + Drop>(&mut self, fields: I, n: usize) -> bool
         requires can { I.can_next fields }
         requires ends { IsFinite (I.remaining fields) }
-        ensures { (fs : List ℕ) → AlwaysYields I.next_gives (λ f. f) fields fs → Notes fs n self.old self.new result }
+        ensures { (fs : List ℕ) → AlwaysYields I.next_gives (λ f. f) fields fs → NotesBytes fs n self.old self.new result }
     {
         for field in fields {
             if field as usize >= n || !self.note(field) {
