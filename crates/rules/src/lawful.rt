@@ -18,13 +18,10 @@ fn rule_is_lawful<R: Row, B: Book<R>>(book: &B, k: usize, n: usize) -> bool
         return false;
     }
     let mut seen = Seen::none();
-    for place in 0..size as usize {
-        let field = book.scope_field(k, place);
-        if field as usize >= n || !seen.note(field) {
-            return false;
-        }
-    }
-    true
+    seen.note_all(
+        (0..size as usize).map(|place| book.scope_field(k, place)),
+        n,
+    )
 }
 
 // Whether the book is lawful for n fields. A field above 254 is told as 255, so of more than 254
