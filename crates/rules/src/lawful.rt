@@ -30,13 +30,5 @@ pub fn is_lawful<R: Row, B: Book<R>>(book: &B, n: usize) -> bool
     ensures { Decides result ((n ≤ 254) × Lawful n (B.Book.rules book.now)) }
 {
     let count = book.rule_count();
-    if n > 254 || count > 1024 {
-        return false;
-    }
-    for k in 0..count {
-        if !rule_is_lawful(book, k, n) {
-            return false;
-        }
-    }
-    true
+    n <= 254 && count <= 1024 && (0..count).all(|k| rule_is_lawful(book, k, n))
 }
