@@ -1,10 +1,13 @@
 -- The rules of two books, one after the other. Assumes nothing.
-use Rattle.std.proofs.Common.{◌≡◌, ℕ, zero, suc, ◌+◌, ◌-◌, ◌<◌, ◌≤◌, min, Bool, cond, ◌&&◌, leb, List, [], ◌∷◌, ◌++◌, length, get_or, Result, sym, refl, ap, ◌∙◌, subst, ap₂, ⊎_elim, suc-add, zero-add, arith, length-append}
+use Rattle.std.proofs.Common.{Some, ◌≡◌, ℕ, zero, suc, ◌+◌, ◌<◌, ◌≤◌, min, Bool, cond, ◌&&◌, leb, List, [], ◌∷◌, ◌++◌, length, get_or, Result, sym, refl, ap, ◌∙◌, subst, ap₂, ⊎_elim, suc-add, zero-add, arith, length-append}
 use Rattle.std.proofs.lemmas.Bool.{cases_lt, lt-ltb, le-ltb, le-leb}
 use Rattle.std.proofs.lemmas.Bool.Decides.{nat_tests}
 use Rattle.rows.specs.Values.{Values}
 use Rattle.rules.specs.Books.{rule_at, told, told_count, told_size, told_field, Narrows}
+use Rattle.rules.specs.Joining.{Placed}
 use Rattle.rules.specs.Rules.{Rule}
+use Rattle.rules.specs.declared.pair.Place.{Place}
+use Rattle.rules.specs.declared.pair.Place.TheVariants.{First, Second}
 use Rattle.rules.specs.declared.fault.NarrowFault.{NarrowFault}
 
 rule_first : (qs rs : List Rule) (k : ℕ) → k < length qs → rule_at (qs ++ rs) k ≡ rule_at qs k
@@ -27,45 +30,54 @@ size_at qs k h l = ap₂ (λ a b. cond (a && b) (told (length (rule_at qs k).sco
 size_past : (qs : List Rule) (k : ℕ) → length qs ≤ k → told_size qs k ≡ 255
 size_past qs k h = ap (λ a. cond (a && leb k 1023) (told (length (rule_at qs k).scope)) 255) (le-ltb k (length qs) h)
 
-module _ (qs rs : List Rule) (k count : ℕ) (reach : k ≤ 1023) (tells-count : count ≡ told_count qs) where
-  -- below the told count of the first book, the rule is the first book's
-  in_first : k < count → k < length qs
-  in_first h = grind (arith, nat_tests)
+module _ (qs rs : List Rule) (k j : ℕ) (p : Place) (placed : Placed qs rs k (Some p)) where
+  -- a rule of the first book
+  module _ (is : p ≡ First j) where
+    at_first : Placed qs rs k (Some (First j))
+    at_first = subst (λ q. Placed qs rs k (Some q)) is placed
 
-  in_second : count ≤ k → length qs ≡ count
-  in_second h = grind (arith, nat_tests)
+    pub first_reach : (k ≤ 1023) × (j ≤ 1023)
+    first_reach = let at = at_first in (at.0, omega (arith, at.0, at.1))
 
-  pub first_rule : k < count → rule_at (qs ++ rs) k ≡ rule_at qs k
-  first_rule h = rule_first qs rs k (in_first h)
+    pub first_rule : rule_at (qs ++ rs) k ≡ rule_at qs j
+    first_rule = let at = at_first in ap (rule_at (qs ++ rs)) (sym at.1) ∙ rule_first qs rs j at.2
 
-  -- from there on, it is the second book's
-  pub second_rule : count ≤ k → rule_at (qs ++ rs) k ≡ rule_at rs (k - count)
-  second_rule h =
-      let long = in_second h in
-      ap (rule_at (qs ++ rs)) (omega arith) ∙ rule_second qs rs (k - count)
+    pub first_size : told_size qs j ≡ told_size (qs ++ rs) k
+    first_size =
+        let at = at_first in
+        let long = length-append qs rs in
+        size_at qs j at.2 first_reach.1 ∙ ap (λ r. told (length r.scope)) (sym first_rule) ∙ sym (size_at (qs ++ rs) k (omega (arith, long, at.1, at.2)) at.0)
 
-  pub first_size : k < count → told_size qs k ≡ told_size (qs ++ rs) k
-  first_size h =
-      let long = length-append qs rs in
-      let within = in_first h in
-      size_at qs k within reach ∙ ap (λ r. told (length r.scope)) (sym (first_rule h)) ∙ sym (size_at (qs ++ rs) k (omega arith) reach)
+    pub first_field : (place : ℕ) → told_field qs j place ≡ told_field (qs ++ rs) k place
+    first_field place =
+        let at = at_first in
+        ap (λ i. cond (leb i 1023) (told (get_or (rule_at qs j).scope place 255)) 255) at.1
+        ∙ ap (λ r. cond (leb k 1023) (told (get_or r.scope place 255)) 255) (sym first_rule)
 
-  pub second_size : count ≤ k → told_size rs (k - count) ≡ told_size (qs ++ rs) k
-  second_size h =
-      let long = length-append qs rs in
-      let before = in_second h in
-      ⊎_elim
-      (λ within. size_at rs (k - count) within (omega arith) ∙ ap (λ r. told (length r.scope)) (sym (second_rule h)) ∙ sym (size_at (qs ++ rs) k (omega arith) reach))
-      (λ past. size_past rs (k - count) past ∙ sym (size_past (qs ++ rs) k (omega arith)))
-      (cases_lt (k - count) (length rs))
+  -- a rule of the second
+  module _ (is : p ≡ Second j) where
+    at_second : Placed qs rs k (Some (Second j))
+    at_second = subst (λ q. Placed qs rs k (Some q)) is placed
 
-  pub first_field : (place : ℕ) → k < count → told_field qs k place ≡ told_field (qs ++ rs) k place
-  first_field place h = ap (λ r. cond (leb k 1023) (told (get_or r.scope place 255)) 255) (sym (first_rule h))
+    pub second_reach : (k ≤ 1023) × (j ≤ 1023)
+    second_reach = let at = at_second in (at.0, omega (arith, at.0, at.1))
 
-  pub second_field : (place : ℕ) → count ≤ k → told_field rs (k - count) place ≡ told_field (qs ++ rs) k place
-  second_field place h =
-      ap (λ b. cond b (told (get_or (rule_at rs (k - count)).scope place 255)) 255) (le-leb (k - count) 1023 (omega arith) ∙ sym (le-leb k 1023 reach))
-      ∙ ap (λ r. cond (leb k 1023) (told (get_or r.scope place 255)) 255) (sym (second_rule h))
+    pub second_rule : rule_at (qs ++ rs) k ≡ rule_at rs j
+    second_rule = ap (rule_at (qs ++ rs)) (sym at_second.1) ∙ rule_second qs rs j
+
+    pub second_size : told_size rs j ≡ told_size (qs ++ rs) k
+    second_size =
+        let at = at_second in
+        let long = length-append qs rs in
+        ⊎_elim
+        (λ within. size_at rs j within second_reach.1 ∙ ap (λ r. told (length r.scope)) (sym second_rule) ∙ sym (size_at (qs ++ rs) k (omega (arith, long, at.1, within)) at.0))
+        (λ past. size_past rs j past ∙ sym (size_past (qs ++ rs) k (omega (arith, long, at.1, past))))
+        (cases_lt j (length rs))
+
+    pub second_field : (place : ℕ) → told_field rs j place ≡ told_field (qs ++ rs) k place
+    second_field place =
+        ap (λ b. cond b (told (get_or (rule_at rs j).scope place 255)) 255) (le-leb j 1023 second_reach.1 ∙ sym (le-leb k 1023 second_reach.0))
+        ∙ ap (λ r. cond (leb k 1023) (told (get_or r.scope place 255)) 255) (sym second_rule)
 
 -- a rule narrows as well from another place that is in reach
 pub moved : {R : Type 0} (values : R → Values) (r r' : Rule) (k k' n : ℕ) (before after : List R) (answer : Result Bool NarrowFault) → k ≤ 1023 → k' ≤ 1023 → r ≡ r'

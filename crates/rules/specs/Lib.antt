@@ -1,4 +1,5 @@
 pub mod Books
+pub mod Joining
 pub mod Rings
 pub mod Rules
 pub mod Seen

@@ -8,12 +8,12 @@ pub enum NarrowFault {
     Unfit,
 }
 
-impl NarrowFault {
-    // The number that the refusal is known by.
-    pub fn number(self) -> u8
-        ensures { result ≡ fault_number self }
-    {
-        match self {
+// The number that the refusal is known by.
+impl From<NarrowFault> for u8 {
+    ghost from_gives = { λ fault number. number ≡ fault_number fault };
+
+    fn from(fault: NarrowFault) -> u8 {
+        match fault {
             NarrowFault::Unfit => 8,
         }
     }

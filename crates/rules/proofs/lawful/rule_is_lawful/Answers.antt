@@ -22,5 +22,5 @@ returns g c =
     noted_lawful book c.args.k c.args.n (omega arith) (omega arith) size c.scope_size-size.ensures c.if-size-eq0.false c.if-size.false
     c.none-seen.result c.note_all.new.self c.note_all.result c.none-seen.ensures
     (c.note_all.ensures _
-        (YieldsList-from_map _ (told_field book c.args.k) (YieldsList-from_range 0 size size (cc) (omega arith)) c.map.ensures.closure (λ x r q k. search (rules, tests))).runs
-        c.args.n refl)
+    (YieldsList-from_map _ (told_field book c.args.k) (YieldsList-from_range 0 size size (cc) (omega arith)) c.map.ensures.closure (λ x r q k. search (rules, tests))).runs
+    c.args.n refl)

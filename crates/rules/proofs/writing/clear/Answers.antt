@@ -18,5 +18,5 @@ pub returns : goal.returns
 returns g c fs gives =
     subst (λ xs. Written g.R.Row.values none_left xs (length xs) c.args.rows.now c.loop-field.rows c.loop-field.changed)
     (taken_all g.I.Iterator.next_gives c.args.fields c.into_iter-field-iterator.result c.loop-field.field-iterator c.next.new.self
-        c.into_iter-field-iterator.ensures.into_iter_gives fs c.loop-field.yielded gives c.loop-field.yielded_by c.in-None.ensures.steps)
+    c.into_iter-field-iterator.ensures.into_iter_gives fs c.loop-field.yielded gives c.loop-field.yielded_by c.in-None.ensures.steps)
     c.loop-field.invariant.2

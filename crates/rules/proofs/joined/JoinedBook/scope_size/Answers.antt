@@ -1,15 +1,17 @@
-use Rattle.std.proofs.Common.{◌∙◌, arith}
+use Rattle.std.proofs.Common.{◌∙◌}
 use Rattle.rules.proofs.Appended.{first_size, second_size}
 use Rattle.rules.proofs.joined.JoinedBook.scope_size.Goals as goal
 
-pub returns-then-k-count : goal.returns-then-k-count
-returns-then-k-count g c =
+pub returns-in-Some-First : goal.returns-in-Some-First
+returns-in-Some-First g c =
     let qs = g.A.Book.rules c.args.self.now.first in
     let rs = g.B.Book.rules c.args.self.now.second in
-    c.scope_size.ensures ∙ first_size qs rs c.args.k c.rule_count-count.result (omega arith) c.rule_count-count.ensures (omega arith)
+    let at = c.in-Some-First in
+    c.scope_size.ensures ∙ first_size qs rs c.args.k at.j at.field-0 at.ensures at.field-0-is
 
-pub returns-else-k-count : goal.returns-else-k-count
-returns-else-k-count g c =
+pub returns-in-Some-Second : goal.returns-in-Some-Second
+returns-in-Some-Second g c =
     let qs = g.A.Book.rules c.args.self.now.first in
     let rs = g.B.Book.rules c.args.self.now.second in
-    c.scope_size-else-k-count.ensures ∙ second_size qs rs c.args.k c.rule_count-count.result (omega arith) c.rule_count-count.ensures (omega arith)
+    let at = c.in-Some-Second in
+    c.scope_size-in-Some-Second.ensures ∙ second_size qs rs c.args.k at.j at.field-0 at.ensures at.field-0-is

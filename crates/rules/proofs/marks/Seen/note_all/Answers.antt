@@ -1,4 +1,4 @@
-use Rattle.std.proofs.Common.{◌≡◌, ℕ, List, [], ◌∷◌, ◌++◌, true, false, rules, refl, sym, ◌∙◌, subst, arith}
+use Rattle.std.proofs.Common.{◌≡◌, ℕ, List, [], ◌∷◌, ◌++◌, true, false, rules, sym, ◌∙◌, subst, arith}
 use Rattle.rules.specs.Seen.{Notes}
 use Rattle.rules.specs.declared.marks.Seen.{Seen}
 use Rattle.rules.proofs.NewFields.{large_noted, one_noted, then_noted, refused_noted}
@@ -18,7 +18,7 @@ returns-then-field-n g c fs gives m same =
     let steps = g.I.Iterator.next_gives in
     let field = c.in-Some.field in
     let next = taken_next steps c.args.fields c.into_iter-field-iterator.result c.loop-field.field-iterator c.next.new.self
-        c.into_iter-field-iterator.ensures.into_iter_gives fs c.loop-field.yielded gives c.loop-field.yielded_by field c.in-Some.ensures.steps in
+    c.into_iter-field-iterator.ensures.into_iter_gives fs c.loop-field.yielded gives c.loop-field.yielded_by field c.in-Some.ensures.steps in
     one_refused m field fs c.loop-field.yielded next.0 c.args.self.now c.loop-field.self c.then-field-n.self next.1 (c.loop-field.invariant.2 m same)
     (elim c.then-field-n.branch [
       | then-field-n-via-then-field-n w ↦ large_noted m field [] c.loop-field.self c.then-field-n.self (omega (arith, same, w.if-field-n.true))
@@ -38,5 +38,5 @@ pub returns : goal.returns
 returns g c fs gives m same =
     subst (λ xs. Notes xs m c.args.self.now c.loop-field.self true)
     (taken_all g.I.Iterator.next_gives c.args.fields c.into_iter-field-iterator.result c.loop-field.field-iterator c.next.new.self
-        c.into_iter-field-iterator.ensures.into_iter_gives fs c.loop-field.yielded gives c.loop-field.yielded_by c.in-None.ensures.steps)
+    c.into_iter-field-iterator.ensures.into_iter_gives fs c.loop-field.yielded gives c.loop-field.yielded_by c.in-None.ensures.steps)
     (c.loop-field.invariant.2 m same)
