@@ -1,3 +1,4 @@
 pub mod Counts
 pub mod Minus
+pub mod RunLists
 pub mod Words

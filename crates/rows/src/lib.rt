@@ -49,9 +49,9 @@ pub trait Row: Copy {
         ensures { Same (values result) (less (values self) (values other)) }
     {
         let mut left = self;
-        for v in 0..Self::SPAN {
-            if other.has(v as u8) {
-                left = left.without(v as u8);
+        for v in 0..=u8::MAX {
+            if other.has(v) {
+                left = left.without(v);
             }
         }
         left
@@ -62,9 +62,8 @@ pub trait Row: Copy {
         ensures { Same (values result) (up_to (values self) v) }
     {
         // The range has to end below the span: one that does not is empty.
-        let last = Self::SPAN - 1;
-        let top = if (v as usize) < last { v } else { last as u8 };
-        self.common(Self::make(0, top))
+        let last = (Self::SPAN - 1) as u8;
+        self.common(Self::make(0, v.min(last)))
     }
 
     // Whether the row has no value.
