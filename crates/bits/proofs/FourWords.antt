@@ -1,5 +1,5 @@
 -- How many values four words have. Assumes nothing.
-use Rattle.std.proofs.Common.{◌≡◌, ℕ, ◌+◌, ◌*◌, ◌/◌, ◌%◌, ◌<◌, ◌&&◌, get_or, ap, ◌∙◌, ap₂, arith, lit<}
+use Rattle.std.proofs.Common.{◌≡◌, ℕ, ◌+◌, ◌*◌, ◌/◌, ◌%◌, ◌<◌, ◌&&◌, List, [], ◌∷◌, length, map, sum, get_or, ap, ◌∙◌, ap₂, arith, lit<}
 use Rattle.std.proofs.lemmas.Nat.{div-mul-add, mod-mul-add}
 use Rattle.std.proofs.lemmas.Bool.{lt-ltb}
 use Rattle.rows.specs.Values.{how_many}
@@ -21,8 +21,8 @@ part r i h =
     ∙ ap₂ (λ w d. bit (get_or r.words w 0) d) (div-mul-add i 64 k l) (mod-mul-add i 64 k l))
 
 -- the values of a row are counted word by word
-pub sum_of_words : (r : Bits) → in_word r 0 + in_word r 1 + in_word r 2 + in_word r 3 ≡ how_many 256 (bits_have r)
-sum_of_words r =
+by_words : (r : Bits) → in_word r 0 + in_word r 1 + in_word r 2 + in_word r 3 ≡ how_many 256 (bits_have r)
+by_words r =
     let p = bits_have r in
     let from : ℕ → ℕ = λ n. how_many 64 (λ k. p (n + k)) in
     let a3 : how_many 256 p ≡ from 192 + how_many 192 p = how_many_add 64 192 p in
@@ -35,3 +35,12 @@ sum_of_words r =
     let w2 : from 128 ≡ in_word r 2 = part r 2 (lit< tt) in
     let w3 : from 192 ≡ in_word r 3 = part r 3 (lit< tt) in
     omega arith
+
+-- a sum over four words
+four : (h : ℕ → ℕ) (ws : List ℕ) → length ws ≡ 4 → sum (map h ws) ≡ h (get_or ws 0 0) + h (get_or ws 1 0) + h (get_or ws 2 0) + h (get_or ws 3 0)
+four h (a ∷ b ∷ c ∷ d ∷ []) l = omega arith
+four h ws l = absurd (omega arith)
+
+-- the numbers in the words together are the values of the row
+pub sum_of_words : (r : Bits) → length r.words ≡ 4 → sum (map (λ w. how_many 64 (bit w)) r.words) ≡ how_many 256 (bits_have r)
+sum_of_words r l = four (λ w. how_many 64 (bit w)) r.words l ∙ by_words r

@@ -1,7 +1,7 @@
 // Rows of up to 256 values as bit sets. Every call works on whole words.
 #![tactic(auto)]
 
-ghost use Rattle.std.specs.Prelude.{◌&&◌, nat_lt};
+ghost use Rattle.std.specs.Prelude.{ℕ, ◌<◌, ◌&&◌, nat_lt, slice_index};
 ghost use Rattle.rows.specs.Values.{Same, either, Least};
 ghost use Rattle.bits.specs.Reads.{bits_have};
 ghost use Rattle.std.proofs.Common.{rules};
@@ -11,18 +11,14 @@ mod words;
 
 use record::Bits;
 use rows::{OrderedRow, Row};
+use std::array;
 
 // All values below n.
 fn first_values(n: usize) -> Bits
     ensures { Same (bits_have result) (λ v. nat_lt v 256 && nat_lt v n) }
 {
     Bits {
-        words: [
-            words::first(n),
-            words::first(n.saturating_sub(64)),
-            words::first(n.saturating_sub(128)),
-            words::first(n.saturating_sub(192)),
-        ],
+        words: array::from_fn(|i| words::first(n.saturating_sub(64 * i))),
     }
 }
 
@@ -30,28 +26,25 @@ fn first_values(n: usize) -> Bits
 fn lowest(row: Bits) -> Option<u8>
     ensures { Least (bits_have row) result }
 {
-    for i in 0..4u8 {
-        if let Some(k) = words::least(row.words[i as usize]) {
-            return Some(i * 64 + k);
-        }
-    }
-    None
+    (0..4u8).find_map(|i| words::least(row.words[i as usize]).map(|k| 64 * i + k))
 }
 
 impl Bits {
+    // The words that `op` makes of each word of the row and the word of the other at the same place.
+    fn by_words<F: Fn(u64, u64) -> u64>(self, other: Bits, op: F) -> Bits
+        requires { F.IsAlwaysCallable op }
+        ensures { (i : ℕ) → i < 4 → F.post op (slice_index self.words i) (slice_index other.words i) (slice_index result.words i) }
+    {
+        Bits {
+            words: array::from_fn(|i| op(self.words[i], other.words[i])),
+        }
+    }
+
     // The values that either row has.
     pub fn joined(self, other: Bits) -> Bits
         ensures { Same (bits_have result) (either (bits_have self) (bits_have other)) }
     {
-        let (a, b) = (self.words, other.words);
-        Bits {
-            words: [
-                words::joined(a[0], b[0]),
-                words::joined(a[1], b[1]),
-                words::joined(a[2], b[2]),
-                words::joined(a[3], b[3]),
-            ],
-        }
+        self.by_words(other, words::joined)
     }
 }
 
@@ -84,15 +77,7 @@ impl Row for Bits {
     }
 
     fn common(self, other: Bits) -> Bits {
-        let (a, b) = (self.words, other.words);
-        Bits {
-            words: [
-                words::common(a[0], b[0]),
-                words::common(a[1], b[1]),
-                words::common(a[2], b[2]),
-                words::common(a[3], b[3]),
-            ],
-        }
+        self.by_words(other, words::common)
     }
 
     fn meets(self, other: Bits) -> bool {
@@ -100,20 +85,11 @@ impl Row for Bits {
     }
 
     fn size(self) -> usize {
-        let a = self.words;
-        words::size(a[0]) + words::size(a[1]) + words::size(a[2]) + words::size(a[3])
+        self.words.iter().map(|word| words::size(*word)).sum()
     }
 
     fn minus(self, other: Bits) -> Bits {
-        let (a, b) = (self.words, other.words);
-        Bits {
-            words: [
-                words::minus(a[0], b[0]),
-                words::minus(a[1], b[1]),
-                words::minus(a[2], b[2]),
-                words::minus(a[3], b[3]),
-            ],
-        }
+        self.by_words(other, words::minus)
     }
 
     fn at_most(self, v: u8) -> Bits {
