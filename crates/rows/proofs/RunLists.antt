@@ -1,5 +1,5 @@
 -- The list of a set's runs. Assumes nothing.
-use Rattle.std.proofs.Common.{◌≡◌, ℕ, zero, suc, ◌+◌, ◌-◌, ◌*◌, ◌<◌, ◌≤◌, Bool, true, false, ◌&&◌, ◌||◌, eqb, ltb, leb, List, [], ◌∷◌, ◌++◌, length, sym, refl, ap, ◌∙◌, ap₂, ◌⊎◌, inl, inr, ⊎_elim, suc-add, arith}
+use Rattle.std.proofs.Common.{◌≡◌, ℕ, zero, suc, ◌+◌, ◌-◌, ◌*◌, ◌<◌, ◌≤◌, Bool, true, false, cond, ◌&&◌, ◌||◌, eqb, ltb, leb, List, [], ◌∷◌, ◌++◌, length, sym, refl, ap, ◌∙◌, ap₂, ◌⊎◌, inl, inr, ⊎_elim, suc-add, arith}
 use Rattle.std.proofs.lemmas.Bool.{cases_Bool, cond-true, cond-false, both_ways}
 use Rattle.std.proofs.lemmas.Bool.Decides.{nat_tests}
 use Rattle.std.proofs.lemmas.List.{append-nil}
@@ -34,6 +34,15 @@ runs_from_zero v p = refl
 pub none_from : (n v : ℕ) (p : Values) → ((w : ℕ) → v ≤ w → p w ≡ false) → runs_from n v p ≡ []
 none_from zero v p none = runs_from_zero v p
 none_from (suc n) v p none = runs_from_gap n v p (none v (omega arith)) ∙ none_from n (v + 1) p (λ w h. none w (omega arith))
+
+-- where no number from v + n on is in the set, those below are all
+pub runs_from_wider : (m n v : ℕ) (p : Values) → ((w : ℕ) → v + n ≤ w → p w ≡ false) → runs_from (n + m) v p ≡ runs_from n v p
+unfolding runs_from
+runs_from_wider m zero v p none = none_from (0 + m) v p (λ w h. none w (omega arith)) ∙ sym (runs_from_zero v p)
+runs_from_wider m (suc n) v p none =
+    ap (λ k. runs_from k v p) (suc-add n m)
+    ∙ ap (λ above. cond (p v) (cond (p (v + 1)) (begun_at v above) (one v ∷ above)) above)
+    (runs_from_wider m n (v + 1) p (λ w h. none w (omega arith)))
 
 -- k numbers that are not in the set are passed over
 gap_from : (k n v : ℕ) (p : Values) → ((w : ℕ) → v ≤ w → w < v + k → p w ≡ false) → runs_from (k + n) v p ≡ runs_from n (v + k) p

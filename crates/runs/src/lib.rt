@@ -13,37 +13,35 @@ pub mod record;
 
 use bits::record::Bits;
 use record::Runs;
-use rows::listing::next_run;
+use rows::listing::runs_of;
 use rows::run::Run;
 use rows::{OrderedRow, Row};
 
-impl Runs {
-    // The row as a bit set.
-    fn to_bits(self) -> Bits
-        ensures { Same (bits_have result) (runs_have self) }
-    {
-        let count = (self.count as usize).min(64);
+// A list of runs as a bit set.
+impl From<Runs> for Bits {
+    ghost from_gives = { λ runs bits. Same (bits_have bits) (runs_have runs) };
+
+    fn from(runs: Runs) -> Bits {
+        let count = (runs.count as usize).min(64);
         let mut bits = Bits::make(1, 0);
-        for i in 0..count {
-            let run = self.pairs[i];
+        for run in &runs.pairs[..count] {
             bits = bits.joined(Bits::make(run.low, run.high.min(127)));
         }
         bits
     }
+}
 
+impl Runs {
     // The values below 128 of a bit set, as its longest runs, lowest first. There are at most 64,
     // since the number after a run is in none.
     fn from_bits(bits: Bits) -> Runs
         ensures { Same (runs_have result) (up_to (bits_have bits) 127) }
     {
-        let low_bits = bits.at_most(127);
         let mut pairs = [Run { low: 0, high: 0 }; 64];
         let mut count = 0;
-        let mut from = 0;
-        while let Some(next) = next_run(low_bits, from) {
-            pairs[count] = next;
-            count += 1;
-            from = next.high as usize + 2;
+        for (i, run) in runs_of(bits.at_most(127)).enumerate() {
+            pairs[i] = run;
+            count = i + 1;
         }
         Runs {
             pairs,
@@ -75,36 +73,36 @@ impl Row for Runs {
     }
 
     fn has(self, v: u8) -> bool {
-        self.to_bits().has(v)
+        Bits::from(self).has(v)
     }
 
     fn without(self, v: u8) -> Runs {
-        Runs::from_bits(self.to_bits().without(v))
+        Runs::from_bits(Bits::from(self).without(v))
     }
 
     fn common(self, other: Runs) -> Runs {
-        Runs::from_bits(self.to_bits().common(other.to_bits()))
+        Runs::from_bits(Bits::from(self).common(Bits::from(other)))
     }
 
     fn meets(self, other: Runs) -> bool {
-        self.to_bits().meets(other.to_bits())
+        Bits::from(self).meets(Bits::from(other))
     }
 
     fn size(self) -> usize {
-        self.to_bits().size()
+        Bits::from(self).size()
     }
 
     fn minus(self, other: Runs) -> Runs {
-        Runs::from_bits(self.to_bits().minus(other.to_bits()))
+        Runs::from_bits(Bits::from(self).minus(Bits::from(other)))
     }
 }
 
 impl OrderedRow for Runs {
     fn least(self) -> Option<u8> {
-        self.to_bits().least()
+        Bits::from(self).least()
     }
 
     fn greatest(self) -> Option<u8> {
-        self.to_bits().greatest()
+        Bits::from(self).greatest()
     }
 }

@@ -2,7 +2,7 @@
 // stand and however they overlap; a count above 64 is read as 64.
 use rows::run::Run;
 
-#[derive(Clone, Copy)]
+#[derive(Clone, Copy, Debug)]
 pub struct Runs {
     pub pairs: [Run; 64],
     pub count: u8,

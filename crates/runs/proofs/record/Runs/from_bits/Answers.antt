@@ -1,27 +1,54 @@
-use Rattle.std.proofs.Common.{◌<◌, ◌||◌, length, set, sym, ap, ◌∙◌, arith, length-set, get_or-set_same}
+use Rattle.std.proofs.Common.{rules, arith, ◌≡◌, ◌<◌, ◌≤◌, ◌+◌, ℕ, false, ap, ap₂, sym, refl, ◌∙◌, length, take, min, ltb, ◌&&◌, ◌||◌, length-set}
+use Rattle.std.proofs.lemmas.Bool.Decides.{nat_tests}
+use Rattle.std.specs.Iterator.Adapters.{enumerate_source}
+use Rattle.rows.specs.Runs.{in_some, runs_left}
+use Rattle.rows.specs.Values.{up_to}
 use Rattle.bits.specs.Reads.{bits_have}
-use Rattle.runs.specs.Reads.{in_run}
-use Rattle.runs.proofs.InSome.{in_some_more, in_some_before, next_joins, ends}
+use Rattle.runs.proofs.InSome.{placed, low_runs}
 use Rattle.runs.proofs.record.Runs.from_bits.Goals as goal
 
-pub bounds-pairs-count : goal.bounds-pairs-count
-bounds-pairs-count c =
-    let found = c.in-Some.ensures in
-    omega (arith, found.above, found.forward, ends (bits_have c.args.bits) c.loop-next.from c.in-Some.next c.at_most-low_bits.ensures found)
-
-pub loop-next-preserved : goal.loop-next-preserved
-loop-next-preserved c =
-    let next = c.in-Some.next in
-    let pairs = c.loop-next.pairs in
-    let count = c.loop-next.count in
-    let found = c.in-Some.ensures in
-    let last = ends (bits_have c.args.bits) c.loop-next.from next c.at_most-low_bits.ensures found in
-    let room : count < length pairs = omega (arith, c.loop-next.invariant.0, found.above, found.forward) in (
-      length-set pairs count next ∙ c.loop-next.invariant.0,
-      omega (arith, c.loop-next.invariant.1, found.above, found.forward),
-      omega arith,
-      λ v.
-          in_some_more (set pairs count next) count next (omega (arith, length-set pairs count next)) (sym (get_or-set_same pairs count next next room)) v
-          ∙ ap (λ b. b || in_run next v) (in_some_before pairs count next v ∙ c.loop-next.invariant.3 v)
-          ∙ next_joins (bits_have c.at_most-low_bits.result) c.loop-next.from next found v,
+pub loop-i-init : goal.loop-i-init
+loop-i-init c =
+    let rest = ap (λ it. runs_left 256 bits_have (enumerate_source it)) c.into_iter-i-iterator.ensures.into_iter_gives
+    ∙ ap (runs_left 256 bits_have) c.enumerate-i-items.ensures.source ∙ c.runs_of.ensures in
+    let all = low_runs (bits_have c.at_most.result) (λ v h. c.at_most.ensures v ∙ above v h) in (
+      refl,
+      search rules,
+      omega (arith, ap length rest, all.0),
+      λ v. ap (λ runs. in_some runs v) rest ∙ all.1 v ∙ c.at_most.ensures v,
     )
+  where
+    above : (v : ℕ) → 128 ≤ v → up_to (bits_have c.args.bits) 127 v ≡ false
+    above v h = grind (arith, nat_tests)
+
+pub bounds-pairs-i : goal.bounds-pairs-i
+bounds-pairs-i c =
+    let steps = c.in-Some.ensures.steps in
+    let kept = c.loop-i.invariant in
+    omega (arith, ap length steps.0, steps.1, kept.1, kept.2)
+
+pub loop-i-preserved : goal.loop-i-preserved
+loop-i-preserved c =
+    let steps = c.in-Some.ensures.steps in
+    let kept = c.loop-i.invariant in
+    let pairs = c.loop-i.pairs in
+    let i = c.in-Some.i in
+    let run = c.in-Some.run' in
+    let rest = runs_left 256 bits_have (enumerate_source c.next.new.self) in
+    let room : i < length pairs = omega (arith, ap length steps.0, steps.1, kept.0, kept.1, kept.2) in (
+      length-set pairs i run ∙ kept.0,
+      steps.2 ∙ ap (λ n. n + 1) (sym steps.1),
+      omega (arith, ap length steps.0, steps.1, kept.1, kept.2),
+      λ v. placed pairs i run rest v room
+          ∙ ap₂ (λ n runs. in_some (take n pairs) v || in_some runs v) (steps.1 ∙ kept.1) (sym steps.0)
+          ∙ kept.3 v,
+    )
+
+pub returns : goal.returns
+returns c v =
+    let none = c.in-None.ensures.steps.0.0 in
+    let kept = c.loop-i.invariant in
+    let pairs = c.loop-i.pairs in
+    let all = ap (λ runs. in_some (take c.loop-i.count pairs) v || in_some runs v) (sym none) ∙ kept.3 v in
+    let counted : min c.loop-i.count 64 ≡ c.loop-i.count = omega (arith, kept.2) in
+    ap (λ n. ltb v 128 && in_some (take n pairs) v) counted ∙ grind (arith, nat_tests, all)
