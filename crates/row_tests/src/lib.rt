@@ -65,22 +65,10 @@ impl Row for Switch {
 
 impl OrderedRow for Switch {
     fn least(self) -> Option<u8> {
-        if self.off {
-            Some(0)
-        } else if self.on {
-            Some(1)
-        } else {
-            None
-        }
+        (0..2u8).find(|v| self.has(*v))
     }
 
     fn greatest(self) -> Option<u8> {
-        if self.on {
-            Some(1)
-        } else if self.off {
-            Some(0)
-        } else {
-            None
-        }
+        (0..2u8).rev().find(|v| self.has(*v))
     }
 }

@@ -8,36 +8,14 @@ use draft::fault::{DraftFault, Refused};
 use draft::memory::{Memory, Range};
 use draft::state::Draft;
 use frames::record::{Frame, Frames, Part};
-use rows::listing::next_run;
+use rows::listing::Listed;
 use rows::{OrderedRow, Row};
 use rules::Book;
 use rules::pair::Joined;
 use runs::record::Runs;
 use settle::settling::settle;
-use std::alloc::{AllocError, Global};
 use std::io;
 use tables::record::{Axis, Cell, Head, Tables};
-
-// The values of a row as runs, as `3-7 12`.
-fn listed<R: OrderedRow>(heap: Global, row: R) -> Result<String, AllocError> {
-    let mut text = String::new(heap);
-    let mut from = 0;
-    while let Some(run) = next_run(row, from) {
-        if from > 0 {
-            text.push(' ')?;
-        }
-        text.push_str(format!(in heap; "{run}")?.as_str())?;
-        from = run.high as usize + 1;
-    }
-    Ok(text)
-}
-
-// One line: what the step was, and the values that it leaves open.
-fn told<R: OrderedRow>(rt: &HostRuntime, step: &str, row: R) -> io::Result<()> {
-    let count = row.size();
-    let values = listed(rt.alloc(), row)?;
-    println!(rt; "{step}: {values} ({count} in all)")
-}
 
 // Settles the rows of a sheet, and tells the grade, the rounds and what is left of each field.
 fn settled<R: OrderedRow, B: Book<R>>(
@@ -54,7 +32,9 @@ fn settled<R: OrderedRow, B: Book<R>>(
         Err(_) => println!(rt; "the rules do not fit the sheet")?,
     }
     for row in rows {
-        told(rt, "what is left", *row)?;
+        let values = Listed(*row);
+        let count = row.size();
+        println!(rt; "what is left: {values} ({count} in all)")?;
     }
     Ok(())
 }

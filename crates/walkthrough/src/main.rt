@@ -5,32 +5,17 @@
 
 use bits::record::Bits;
 use frames::record::{Frame, Frames, Part};
-use rows::listing::next_run;
+use rows::listing::Listed;
 use rows::{OrderedRow, Row};
 use rules::Book;
 use runs::record::Runs;
-use std::alloc::{AllocError, Global};
 use std::io;
 use tables::record::{Axis, Cell, Head, Tables};
 
-// The values of a row as runs, as `3-7 12`.
-fn listed<R: OrderedRow>(heap: Global, row: R) -> Result<String, AllocError> {
-    let mut text = String::new(heap);
-    let mut from = 0;
-    while let Some(run) = next_run(row, from) {
-        if from > 0 {
-            text.push(' ')?;
-        }
-        text.push_str(format!(in heap; "{run}")?.as_str())?;
-        from = run.high as usize + 1;
-    }
-    Ok(text)
-}
-
 // One line: what the step was, and the values that it leaves open.
 fn told<R: OrderedRow>(rt: &HostRuntime, step: &str, row: R) -> io::Result<()> {
+    let values = Listed(row);
     let count = row.size();
-    let values = listed(rt.alloc(), row)?;
     println!(rt; "{step}: {values} ({count} in all)")
 }
 
