@@ -1,4 +1,5 @@
 pub mod Leasts
+pub mod Noted
 pub mod Narrowings
 pub mod PartByPart
 pub mod RuleAt

@@ -6,9 +6,9 @@ use Rattle.rules.specs.Books.{sets, Loses}
 use Rattle.rules.specs.Rules.{Sets, In}
 use Rattle.rules.proofs.Fields.{in_at, front_more, front_apart}
 use Rattle.rules.proofs.RowSets.{sets_same}
-use Rattle.rules.specs.Writes.{Written}
+use Rattle.rules.specs.Writes.{Written, OwnRows}
 use Rattle.rules.proofs.WrittenBack.{more_written}
-use Rattle.frames.specs.Parts.{fields, low, Apart, Summed}
+use Rattle.frames.specs.Parts.{fields, low, Summed}
 use Rattle.frames.specs.declared.record.Part.{Part}
 use Rattle.frames.proofs.Leasts.{least_is}
 use Rattle.frames.proofs.Totals.{more_total}
@@ -43,12 +43,12 @@ module _ (parts : List Part) (i : ℕ) (within : i < length parts) where
       is : low S (part_at parts i).field ≡ least
       is = least_is 256 (S (part_at parts i).field) least small found
 
-  module _ {R : Type 0} (values : R → Values) (new : Sets) (before after : List R) (changed : Bool) (apart : Apart parts (length before))
+  module _ {R : Type 0} (values : R → Values) (new : Sets) (before after : List R) (changed : Bool) (own : OwnRows (fields parts) (length before))
       (w : Written values new (fields parts) i before after changed) where
     -- the row of part i is the one of the start
     pub not_yet : (v : ℕ) → sets values after (part_at parts i).field v ≡ sets values before (part_at parts i).field v
     not_yet = sets_same values before after (part_at parts i).field w.long
-        (λ x. w.others (part_at parts i).field x (λ k. front_apart (fields parts) i 0 within_fields apart.distinct (subst (λ f. In f (take i (fields parts))) (sym field_is) k)))
+        (λ x. w.others (part_at parts i).field x (λ k. front_apart (fields parts) i 0 within_fields own.distinct (subst (λ f. In f (take i (fields parts))) (sym field_is) k)))
 
     -- and gets its new set
     pub part_written : (after' : List R) (lost : Bool) (row : R) → ((v : ℕ) → values row v ≡ new (part_at parts i).field v)
@@ -56,6 +56,6 @@ module _ (parts : List Part) (i : ℕ) (within : i < length parts) where
         → Written values new (fields parts) (i + 1) before after' (changed || lost)
     part_written after' lost row reads is loss =
         subst (λ rows. Written values new (fields parts) (i + 1) before rows (changed || lost)) (ap (λ f. set after f row) field_is ∙ sym is)
-        (more_written values new (fields parts) before i after changed lost row within_fields apart.distinct (apart.below _ (in_at (fields parts) i 0 within_fields)) w
+        (more_written values new (fields parts) before i after changed lost row within_fields own.distinct (own.below _ (in_at (fields parts) i 0 within_fields)) w
         (λ v. reads v ∙ ap (λ f. new f v) (sym field_is))
         (subst (λ f. Decides lost (Loses values after f (values row))) (sym field_is) loss))

@@ -1,10 +1,11 @@
 -- What the parts of a frame sum up to, and which values they leave.
 -- Assumes nothing.
-use Rattle.std.specs.Prelude.{◌≡◌, ℕ, zero, suc, ◌+◌, ◌<◌, ◌≤◌, false, cond, ◌&&◌, List, map, length, sum, nat_le, slice_index}
+use Rattle.std.specs.Prelude.{◌≡◌, ℕ, zero, suc, ◌+◌, cond, ◌&&◌, List, map, sum, Option, MatchOption, nat_le}
 use Rattle.rows.specs.Values.{Values, Empty, LeastOf}
-use Rattle.rules.specs.Books.{rule_at}
-use Rattle.rules.specs.Rules.{Sets, In, Distinct}
+use Rattle.rules.specs.Books.{no_rule, rule_at}
+use Rattle.rules.specs.Rules.{Sets, In}
 use Rattle.frames.specs.Reads.{sum_rule, frame_rules}
+use Rattle.frames.specs.declared.bounded.Bounded.{Bounded}
 use Rattle.frames.specs.declared.record.Frames.{Frames}
 use Rattle.frames.specs.declared.record.Part.{Part}
 
@@ -12,20 +13,9 @@ use Rattle.frames.specs.declared.record.Part.{Part}
 abbrev pub fields : List Part → List ℕ
 fields parts = map (λ p. p.field) parts
 
--- the limit of frame k; 0 past the end
-abbrev pub limit_at : Frames → ℕ → ℕ
-limit_at book k = slice_index (map (λ f. f.limit) book.frames.now) k
-
--- the parts that rule k sums up; none where the rule is not lawful for want of fields
-pub record PartsAt (book : Frames) (k : ℕ) (parts : List Part) : Type 0 where
-  pub few : length parts ≤ 64
-  pub scope : (rule_at (frame_rules book) k).scope ≡ fields parts
-  pub rule : 0 < length parts → rule_at (frame_rules book) k ≡ sum_rule parts (limit_at book k)
-
--- each part has a row, and no two have the same
-pub record Apart (parts : List Part) (rows : ℕ) : Type 0 where
-  pub below : (f : ℕ) → In f (fields parts) → f < rows
-  pub distinct : Distinct (fields parts)
+-- frame k by its parts and its limit, or none where its rule is not lawful for want of fields
+abbrev pub IsBounded : Frames → ℕ → Option Bounded → Type 0
+IsBounded book k r = MatchOption r (rule_at (frame_rules book) k ≡ no_rule) (λ b. rule_at (frame_rules book) k ≡ sum_rule b.parts.now b.limit)
 
 -- the least number of p below n; n if there is none
 unfoldable pub least_under : ℕ → Values → ℕ
@@ -48,10 +38,6 @@ pub record Summed (S : Sets) (parts : List Part) (s : ℕ) : Type 0 where
 -- some part's field has no value
 abbrev pub OneEmpty : Sets → List Part → Type 0
 OneEmpty S parts = (f : ℕ) × In f (fields parts) × Empty (S f)
-
--- no value for any field
-abbrev pub none_left : Sets
-none_left f v = false
 
 -- the values at most `room` above the least
 abbrev pub cut : Sets → ℕ → Sets

@@ -2,7 +2,7 @@
 
 // A frame: where its parts begin, how many there are, and the limit on the sum of all their values
 // and loads.
-#[derive(Clone, Copy)]
+#[derive(Clone, Copy, PartialEq, Eq, Debug)]
 pub struct Frame {
     pub first: usize,
     pub count: usize,
@@ -10,14 +10,14 @@ pub struct Frame {
 }
 
 // One part of a frame: a task's field, and the time to load it.
-#[derive(Clone, Copy)]
+#[derive(Clone, Copy, PartialEq, Eq, Debug)]
 pub struct Part {
     pub field: u8,
     pub load: u8,
 }
 
 // The frames of a sheet, in memory that is lent.
-#[derive(Clone, Copy)]
+#[derive(Clone, Copy, PartialEq, Eq, Debug)]
 pub struct Frames<'a> {
     pub frames: &'a [Frame],
     pub parts: &'a [Part],

@@ -1,23 +1,23 @@
-use Rattle.std.proofs.Common.{◌+◌, ◌<◌, min, length, sym, ◌∙◌, ap₂, arith, rules}
+use Rattle.std.proofs.Common.{◌<◌, length, sym, ◌∙◌, arith, rules}
 use Rattle.rules.specs.Books.{sets}
 use Rattle.rules.proofs.RowSets.{sets_at}
 use Rattle.frames.specs.Parts.{cut}
 use Rattle.frames.proofs.Leasts.{cut_at}
 use Rattle.frames.proofs.PartByPart.{part_at, field_in, not_yet, part_written}
-use Rattle.frames.proofs.cut_rows.Goals as goal
+use Rattle.frames.proofs.bounded.Bounded.cut_rows.Goals as goal
 
 pub offset_bounds-rows-part : goal.offset_bounds-rows-part
 offset_bounds-rows-part g c =
-    let below = c.requires.below _ (field_in c.args.parts.now c.loop-part.part-index c.loop-part-test.true) in
+    let below = c.requires.below _ (field_in c.args.self.now.parts.now c.loop-part.part-index c.loop-part-test.true) in
     search rules
 
 pub bounds-rows-part : goal.bounds-rows-part
 bounds-rows-part g c =
-    omega (arith, c.requires.below _ (field_in c.args.parts.now c.loop-part.part-index c.loop-part-test.true))
+    omega (arith, c.requires.below _ (field_in c.args.self.now.parts.now c.loop-part.part-index c.loop-part-test.true))
 
 pub loop-part-preserved : goal.loop-part-preserved
 loop-part-preserved g c =
-    let parts = c.args.parts.now in
+    let parts = c.args.self.now.parts.now in
     let before = c.args.rows.now in
     let after = c.loop-part.rows in
     let values = g.R.Row.values in
@@ -31,5 +31,5 @@ loop-part-preserved g c =
     (λ u. sym (not_yet parts i within values (cut (sets values before) c.args.room) before after c.loop-part.changed c.requires c.loop-part.invariant u) ∙ sets_at values after _ row inside c.index-rows-part.is u)
     c.least.ensures
     (λ u h. omega (arith, g.met.R.Row.inside row u h, g.met.R.Row.small))
-    (c.saturating_add-top.ensures ∙ ap₂ (λ a b. min (a + b) 255) c.unwrap_or.ensures c.min-step.ensures) v)
+    (cc) v)
     c.replace-changed.ensures.after c.replace-changed.ensures.lost

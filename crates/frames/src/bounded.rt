@@ -1,0 +1,75 @@
+// A frame that makes sense, and how rows are narrowed by it.
+//
+// The values of a part that can still run are those that fit beside the least values of all the
+// others, so one pass over the parts finds the room that is left, and one cuts each row to it.
+ghost use Rattle.std.specs.Prelude.{◌<◌, ◌≤◌, length};
+
+use crate::record::Part;
+use rows::{OrderedRow, Row};
+use rules::marks::Seen;
+use rules::writing::{clear, replace};
+
+// The parts of a frame, 1 to 64 of them, and the limit on the sum of all their values and loads.
+#[derive(Clone, Copy)]
+pub(crate) struct Bounded<'a> {
+    pub parts: &'a [Part],
+    pub limit: u16,
+    ghost some: { 0 < length parts.now },
+    ghost few: { length parts.now ≤ 64 },
+}
+
+impl Bounded<'_> {
+    ghost use Rattle.std.specs.Prelude.{◌≡◌, length, Decides, MatchOption};
+    ghost use Rattle.rules.specs.Writes.{Written, OwnRows};
+    ghost use Rattle.rules.specs.Books.{sets, Narrowing};
+    ghost use Rattle.rules.specs.Rules.{LawfulRule};
+    ghost use Rattle.frames.specs.Parts.{fields, Summed, OneEmpty, cut};
+    ghost use Rattle.frames.specs.Reads.{sum_rule};
+
+    // Whether the parts name only fields below n, and none twice.
+    pub(crate) fn is_lawful(&self, n: usize) -> bool
+        ensures { Decides result (LawfulRule n (sum_rule self.now.parts.now self.now.limit)) }
+    {
+        Seen::none().note_all(self.parts.iter().map(|part| part.field), n)
+    }
+
+    // The sum of all loads and of the least value of each row; none where a row has no value.
+    fn least_sum<R: OrderedRow>(&self, rows: &[R]) -> Option<u32>
+        ensures { MatchOption result (OneEmpty (sets R.Row.values rows.now) self.now.parts.now) (Summed (sets R.Row.values rows.now) self.now.parts.now) }
+    {
+        let mut sum = 0u32;
+        for part in self.parts {
+            let least = rows.get(part.field as usize)?.least()?;
+            sum += part.load as u32 + least as u32;
+        }
+        Some(sum)
+    }
+
+    // Cuts the row of each part to the values at most `room` above its least, and says whether one
+    // lost a value.
+    fn cut_rows<R: OrderedRow>(&self, room: u32, rows: &mut [R]) -> bool
+        requires { OwnRows (fields self.now.parts.now) (length rows.old) }
+        ensures { Written R.Row.values (cut (sets R.Row.values rows.old) room) (fields self.now.parts.now) (length (fields self.now.parts.now)) rows.old rows.new result }
+    {
+        let step = room.min(255) as u8;
+        let mut changed = false;
+        for part in self.parts {
+            let row = rows[part.field as usize];
+            let top = row.least().unwrap_or(0).saturating_add(step);
+            changed |= replace(rows, part.field as usize, row.at_most(top));
+        }
+        changed
+    }
+
+    // Narrows the rows of the parts, and says whether some set changed.
+    pub(crate) fn narrow<R: OrderedRow>(&self, rows: &mut [R]) -> bool
+        requires { OwnRows (fields self.now.parts.now) (length rows.old) }
+        ensures { Narrowing R.Row.values (sum_rule self.now.parts.now self.now.limit) rows.old rows.new result }
+    {
+        let limit = self.limit as u32;
+        match self.least_sum(rows) {
+            Some(sum) if sum <= limit => self.cut_rows(limit - sum, rows),
+            _ => clear(rows, self.parts.iter().map(|part| part.field)),
+        }
+    }
+}
