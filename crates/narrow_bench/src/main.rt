@@ -16,11 +16,7 @@ const TURNS: u64 = 2000;
 
 // Rows that are all made from 0 to 31.
 fn rows_of<R: OrderedRow>(heap: Global, count: usize) -> Result<Vec<R>, AllocError> {
-    let mut rows = Vec::new(heap);
-    for _ in 0..count {
-        rows.push(R::make(0, 31))?;
-    }
-    Ok(rows)
+    (0..count).map(|_| R::make(0, 31)).collect(heap)
 }
 
 // The nanoseconds of many narrowings by the first rule of a book.
@@ -37,30 +33,16 @@ fn narrowings<R: OrderedRow, B: Book<R>>(
     Ok(start.elapsed(rt)?.as_nanos())
 }
 
-// The nanoseconds of as many walks over cells, with what they come to. Each step needs the one before,
-// so the compiler can leave out none of them.
-fn cell_walks(rt: &HostRuntime, cells: &[Cell]) -> io::Result<(u128, u64)> {
+// The nanoseconds of as many walks over cells or parts, with what their numbers come to. Each step
+// needs the one before, so the compiler can leave out none of them.
+fn walks<T, F: Fn(&T) -> u8>(rt: &HostRuntime, items: &[T], number: F) -> io::Result<(u128, u64)>
+    requires { F.IsAlwaysCallable number }
+{
     let start = Instant::now(rt)?;
     let mut sum = 0u64;
     for _ in 0..TURNS {
-        for cell in cells {
-            let value = match *cell {
-                Cell::Constant(k) => k,
-                Cell::Field(f) => f,
-            };
-            sum = sum.rotate_left(1).wrapping_add(value as u64);
-        }
-    }
-    Ok((start.elapsed(rt)?.as_nanos(), sum))
-}
-
-// The same over the parts of a frame.
-fn part_walks(rt: &HostRuntime, parts: &[Part]) -> io::Result<(u128, u64)> {
-    let start = Instant::now(rt)?;
-    let mut sum = 0u64;
-    for _ in 0..TURNS {
-        for part in parts {
-            sum = sum.rotate_left(1).wrapping_add(part.load as u64);
+        for item in items {
+            sum = sum.rotate_left(1).wrapping_add(number(item) as u64);
         }
     }
     Ok((start.elapsed(rt)?.as_nanos(), sum))
@@ -88,10 +70,9 @@ fn both_kinds<B: Book<Bits> + Book<Runs>>(
 
 // Field 0 looked up from fields 1 and 2, by equal extents.
 fn head(extent: u8) -> Head {
-    let (first, second) = (Axis { field: 1, extent }, Axis { field: 2, extent });
     Head {
         x: 0,
-        axes: [first, second, first, second],
+        axes: [1, 2, 1, 2].map(|field| Axis { field, extent }),
         axis_count: 2,
         first: 0,
     }
@@ -103,26 +84,28 @@ fn table(rt: &HostRuntime, what: &str, extent: u8, cells: &[Cell]) -> io::Result
         heads: &heads,
         cells,
     };
-    both_kinds(rt, what, &book, cell_walks(rt, cells)?)
+    let walk = walks(rt, cells, |cell| match *cell {
+        Cell::Constant(k) | Cell::Field(k) => k,
+    })?;
+    both_kinds(rt, what, &book, walk)
+}
+
+// A constant for the place of a cell, below 32.
+fn constant(place: u32) -> Cell {
+    Cell::Constant((place % 32) as u8)
 }
 
 fn constants(rt: &HostRuntime) -> io::Result<()> {
-    let mut cells = Vec::new(rt.alloc());
-    for k in 0..1024u32 {
-        cells.push(Cell::Constant((k % 32) as u8))?;
-    }
+    let cells: Vec<Cell> = (0..1024).map(constant).collect(rt.alloc())?;
     table(rt, "a table of 32 by 32 constants", 32, cells.as_slice())
 }
 
 // As many field cells as 32 by 32 can have, since no field may stand twice; the rest are constants.
 fn mixed_cells(rt: &HostRuntime) -> io::Result<()> {
-    let mut cells = Vec::new(rt.alloc());
-    for f in 3..240u8 {
-        cells.push(Cell::Field(f))?;
-    }
-    for k in 237..1024u32 {
-        cells.push(Cell::Constant((k % 32) as u8))?;
-    }
+    let cells: Vec<Cell> = (3..240)
+        .map(Cell::Field)
+        .chain((237..1024).map(constant))
+        .collect(rt.alloc())?;
     table(
         rt,
         "a table of 32 by 32 cells, 237 of them fields",
@@ -133,18 +116,14 @@ fn mixed_cells(rt: &HostRuntime) -> io::Result<()> {
 
 // A table of nothing but field cells.
 fn field_cells(rt: &HostRuntime) -> io::Result<()> {
-    let mut cells = Vec::new(rt.alloc());
-    for f in 3..228u8 {
-        cells.push(Cell::Field(f))?;
-    }
+    let cells: Vec<Cell> = (3..228).map(Cell::Field).collect(rt.alloc())?;
     table(rt, "a table of 15 by 15 field cells", 15, cells.as_slice())
 }
 
 fn frame(rt: &HostRuntime) -> io::Result<()> {
-    let mut parts = Vec::new(rt.alloc());
-    for f in 0..64u8 {
-        parts.push(Part { field: f, load: f })?;
-    }
+    let parts: Vec<Part> = (0..64)
+        .map(|f| Part { field: f, load: f })
+        .collect(rt.alloc())?;
     let frames = [Frame {
         first: 0,
         count: 64,
@@ -154,12 +133,8 @@ fn frame(rt: &HostRuntime) -> io::Result<()> {
         frames: &frames,
         parts: parts.as_slice(),
     };
-    both_kinds(
-        rt,
-        "a frame of 64 parts",
-        &book,
-        part_walks(rt, parts.as_slice())?,
-    )
+    let walk = walks(rt, parts.as_slice(), |part| part.load)?;
+    both_kinds(rt, "a frame of 64 parts", &book, walk)
 }
 
 fn main(rt: HostRuntime) -> io::Result<()> {
