@@ -6,6 +6,7 @@ ghost use Rattle.std.specs.Prelude.{◌<◌, ◌≤◌, length};
 
 use crate::record::Part;
 use rows::{OrderedRow, Row};
+use rules::fault::NarrowFault;
 use rules::marks::Seen;
 use rules::writing::{clear, replace};
 
@@ -19,15 +20,15 @@ pub(crate) struct Bounded<'a> {
 }
 
 impl Bounded<'_> {
-    ghost use Rattle.std.specs.Prelude.{◌≡◌, length, Decides, MatchOption};
+    ghost use Rattle.std.specs.Prelude.{◌≡◌, ℕ, ◌≤◌, length, Decides, MatchOption};
     ghost use Rattle.rules.specs.Writes.{Written, OwnRows};
-    ghost use Rattle.rules.specs.Books.{sets, Narrowing};
+    ghost use Rattle.rules.specs.Books.{sets, Narrows};
     ghost use Rattle.rules.specs.Rules.{LawfulRule};
     ghost use Rattle.frames.specs.Parts.{fields, Summed, OneEmpty, cut};
     ghost use Rattle.frames.specs.Reads.{sum_rule};
 
     // Whether the parts name only fields below n, and none twice.
-    pub(crate) fn is_lawful(&self, n: usize) -> bool
+    fn is_lawful(&self, n: usize) -> bool
         ensures { Decides result (LawfulRule n (sum_rule self.now.parts.now self.now.limit)) }
     {
         Seen::none().note_all(self.parts.iter().map(|part| part.field), n)
@@ -35,11 +36,12 @@ impl Bounded<'_> {
 
     // The sum of all loads and of the least value of each row; none where a row has no value.
     fn least_sum<R: OrderedRow>(&self, rows: &[R]) -> Option<u32>
+        requires { OwnRows (fields self.now.parts.now) (length rows.now) }
         ensures { MatchOption result (OneEmpty (sets R.Row.values rows.now) self.now.parts.now) (Summed (sets R.Row.values rows.now) self.now.parts.now) }
     {
         let mut sum = 0u32;
         for part in self.parts {
-            let least = rows.get(part.field as usize)?.least()?;
+            let least = rows[part.field as usize].least()?;
             sum += part.load as u32 + least as u32;
         }
         Some(sum)
@@ -61,15 +63,21 @@ impl Bounded<'_> {
         changed
     }
 
-    // Narrows the rows of the parts, and says whether some set changed.
-    pub(crate) fn narrow<R: OrderedRow>(&self, rows: &mut [R]) -> bool
-        requires { OwnRows (fields self.now.parts.now) (length rows.old) }
-        ensures { Narrowing R.Row.values (sum_rule self.now.parts.now self.now.limit) rows.old rows.new result }
+    // Narrows the rows of n fields, as the frame does at any place that a book reaches.
+    pub(crate) fn narrow<R: OrderedRow>(
+        &self,
+        n: usize,
+        rows: &mut [R],
+    ) -> Result<bool, NarrowFault>
+        ensures { (k : ℕ) → k ≤ 1023 → Narrows R.Row.values (sum_rule self.now.parts.now self.now.limit) k n rows.old rows.new result }
     {
+        if n > rows.len() || !self.is_lawful(n) {
+            return Err(NarrowFault::Unfit);
+        }
         let limit = self.limit as u32;
         match self.least_sum(rows) {
-            Some(sum) if sum <= limit => self.cut_rows(limit - sum, rows),
-            _ => clear(rows, self.parts.iter().map(|part| part.field)),
+            Some(sum) if sum <= limit => Ok(self.cut_rows(limit - sum, rows)),
+            _ => Ok(clear(rows, self.parts.iter().map(|part| part.field))),
         }
     }
 }

@@ -61,10 +61,9 @@ impl<'a, R: OrderedRow> Book<R> for Frames<'a> {
     }
 
     fn narrow(&self, k: usize, n: usize, rows: &mut [R]) -> Result<bool, NarrowFault> {
-        let frame = self.bounded(k).ok_or(NarrowFault::Unfit)?;
-        if k > 1023 || n > rows.len() || !frame.is_lawful(n) {
+        if k > 1023 {
             return Err(NarrowFault::Unfit);
         }
-        Ok(frame.narrow(rows))
+        self.bounded(k).ok_or(NarrowFault::Unfit)?.narrow(n, rows)
     }
 }
