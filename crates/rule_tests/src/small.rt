@@ -33,7 +33,7 @@ fn total<R: Row>(rows: &[R]) -> usize {
 }
 
 // The values of three shapes that stand in some line that is allowed.
-pub(crate) fn listed<F: Fn(u8, u8, u8) -> bool>(shapes: [u8; 3], allows: &F) -> [u8; 3]
+fn listed<F: Fn(u8, u8, u8) -> bool>(shapes: [u8; 3], allows: &F) -> [u8; 3]
     requires { F.IsAlwaysCallable allows.now }
 {
     let [x, y, z] = shapes;

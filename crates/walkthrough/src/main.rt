@@ -36,6 +36,23 @@ fn log_rates<R: OrderedRow>(rt: &HostRuntime) -> io::Result<R> {
     Ok(struck)
 }
 
+// Narrows two rows by the first rule of a book, and tells what came of it: the kind of rule, how
+// large it is, and what it takes away.
+fn narrow<R: Row, B: Book<R>>(
+    rt: &HostRuntime,
+    book: &B,
+    rows: &mut [R],
+    kind: &str,
+    size: &str,
+    values: &str,
+) -> io::Result<()> {
+    match book.narrow(0, 2, rows) {
+        Ok(true) => println!(rt; "the {kind}{size} takes {values} away"),
+        Ok(false) => println!(rt; "the {kind}{size} takes nothing away"),
+        Err(_) => println!(rt; "the {kind} does not fit the sheet"),
+    }
+}
+
 // The table: the time of the logging task is looked up from the filter order.
 fn time_of_logging<R: OrderedRow>(rt: &HostRuntime, rates: R) -> io::Result<R> {
     let order = Axis {
@@ -67,11 +84,7 @@ fn time_of_logging<R: OrderedRow>(rt: &HostRuntime, rates: R) -> io::Result<R> {
     let mut rows = Vec::new(rt.alloc());
     rows.push(rates)?;
     rows.push(orders)?;
-    match book.narrow(0, 2, rows.as_mut_slice()) {
-        Ok(true) => println!(rt; "the table takes values away")?,
-        Ok(false) => println!(rt; "the table takes nothing away")?,
-        Err(_) => println!(rt; "the table does not fit the sheet")?,
-    }
+    narrow(rt, &book, rows.as_mut_slice(), "table", "", "values")?;
     let mut left = rates;
     for row in rows.as_slice().iter().rev() {
         told(rt, "what the table leaves", *row)?;
@@ -97,11 +110,7 @@ fn frame_of_tasks<R: OrderedRow>(rt: &HostRuntime, logging: R) -> io::Result<()>
     let mut rows = Vec::new(rt.alloc());
     rows.push(blade)?;
     rows.push(logging)?;
-    match book.narrow(0, 2, rows.as_mut_slice()) {
-        Ok(true) => println!(rt; "the frame of 40 takes times away")?,
-        Ok(false) => println!(rt; "the frame of 40 takes nothing away")?,
-        Err(_) => println!(rt; "the frame does not fit the sheet")?,
-    }
+    narrow(rt, &book, rows.as_mut_slice(), "frame", " of 40", "times")?;
     for row in rows.as_slice() {
         told(rt, "a task that still fits", *row)?;
     }
