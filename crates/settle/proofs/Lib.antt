@@ -8,5 +8,4 @@ pub mod Rounding
 pub mod ScopeLabels
 pub mod SettledRows
 pub mod Totals
-pub mod Truth
 pub mod Worth

@@ -1,11 +1,11 @@
 -- Two settlings of the same sets agree. Assumes nothing.
 use Rattle.std.proofs.Common.{◌≡◌, ℕ, suc, List, [], ◌∷◌, sym, refl, ap, ◌∙◌, ⊎_elim}
+use Rattle.std.proofs.lemmas.Bool.Decides.{same_from_decides}
 use Rattle.rules.specs.Rules.{Sets, Rule, EachRule, LawfulRule, Supported, Narrowed}
 use Rattle.settle.specs.Rounds.{Round, Rounds, last, more, SomeEmpty, AllEmpty, SameSets, Settling, at_once, emptied, ringed, ringless}
 use Rattle.settle.specs.Theorems.{OneSettling}
 use Rattle.settle.specs.declared.outcome.Grade.{Grade}
 use Rattle.settle.proofs.Rounding.{in_or_not}
-use Rattle.settle.proofs.Truth.{same_truth}
 
 same_back : {n : ℕ} {S T : Sets} → SameSets n S T → SameSets n T S
 same_back same f v l = sym (same f v l)
@@ -17,7 +17,7 @@ same_empty same (f, l, none) = (f, l, λ v. same f v l ∙ none v)
 one_narrowing : (n : ℕ) (r : Rule) (S T S' T' : Sets) → LawfulRule n r → SameSets n S T → Narrowed r S S' → Narrowed r T T' → SameSets n S' T'
 one_narrowing n r S T S' T' law same N M f v l =
     ⊎_elim
-    (λ i. same_truth (S' f v) (T' f v) (λ e. M.kept f v i (moved S T same f v (N.left f v i e))) (λ e. N.kept f v i (moved T S (same_back same) f v (M.left f v i e))))
+    (λ i. same_from_decides (T' f v) (S' f v) (λ e. moved T S (same_back same) f v (M.left f v i e), λ s. M.kept f v i (moved S T same f v s)) (N.left f v i, N.kept f v i))
     (λ out. M.others f v out ∙ same f v l ∙ sym (N.others f v out))
     (in_or_not f r.scope)
   where

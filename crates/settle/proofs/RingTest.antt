@@ -1,5 +1,5 @@
 -- Labels from the last rule to the first tell whether rules have a ring. Assumes nothing.
-use Rattle.std.proofs.Common.{◌≡◌, ℕ, zero, suc, ◌<◌, ◌≤◌, true, false, cond, List, [], ◌∷◌, map, length, drop, sym, refl, ap, ◌∙◌, subst, ap₂, inl, inr, arith, drop_of_length-le}
+use Rattle.std.proofs.Common.{◌≡◌, ℕ, zero, suc, ◌<◌, ◌≤◌, true, false, cond, List, [], ◌∷◌, map, length, drop, sym, refl, ap, ◌∙◌, subst, ap₂, inl, inr, arith}
 use Rattle.rules.specs.Books.{rule_at}
 use Rattle.rules.specs.Rings.{Ring}
 use Rattle.rules.specs.Rules.{Rule, In, Distinct, LawfulRule, Lawful}
@@ -9,12 +9,6 @@ use Rattle.rules.proofs.Lists.{map_same}
 use Rattle.rules.proofs.Telling.{place_by_each}
 use Rattle.settle.specs.Labels.{label_of, Labelled, Joins}
 use Rattle.settle.specs.declared.labels.Labels.{Labels}
-
--- with no rule yet, each field has its own label
-pub labels_start : (rules : List Rule) (k : ℕ) (kept : Labels) → length rules ≤ k → Labelled kept (λ f. f) → Tree (drop k rules) × Labelled kept (labels (drop k rules))
-labels_start rules k kept done own =
-    let over : drop k rules ≡ [] = drop_of_length-le rules done in
-    subst (λ rs. Tree rs × Labelled kept (labels rs)) (sym over) (tt, own)
 
 rules_from : (rules : List Rule) (j : ℕ) → j < length rules → drop j rules ≡ rule_at rules j ∷ drop (suc j) rules
 rules_from [] j l = absurd (omega arith)
@@ -34,7 +28,7 @@ merge_same L M (g ∷ gs) f same at =
     ap₂ (λ c cs. cond (member c cs) (L g) c) at ls ∙ ap (λ c. cond (member (M f) (map M gs)) c (M f)) (same g (inl refl))
 
 -- rule j in front of those behind it
-module _ (rules : List Rule) (law : Lawful 254 rules) (k j : ℕ) (next : k ≡ suc j) (within : j < length rules) (before after : Labels) (tree : Tree (drop k rules)) (kept : Labelled before (labels (drop k rules))) where
+module _ (rules : List Rule) (n : ℕ) (known : n ≤ 254) (law : Lawful n rules) (k j : ℕ) (next : k ≡ suc j) (within : j < length rules) (before after : Labels) (tree : Tree (drop k rules)) (kept : Labelled before (labels (drop k rules))) where
   scope : List ℕ
   scope = (rule_at rules j).scope
 
@@ -47,23 +41,23 @@ module _ (rules : List Rule) (law : Lawful 254 rules) (k j : ℕ) (next : k ≡ 
 
   same : (x : ℕ) → In x scope → label_of before x ≡ labels rest x
   unfolding scope
-  same x i = now_kept x (omega (arith, (place_by_each (LawfulRule 254) rules law.each j within).below x i))
+  same x i = now_kept x (omega (arith, (place_by_each (LawfulRule n) rules law.each j within).below x i))
 
   pub joined_tree : Joins (label_of before) (rule_at rules j).scope after true → Tree (drop j rules) × Labelled after (labels (drop j rules))
   unfolding scope rest
   joined_tree joins =
-      let apart = subst Distinct (map_same (label_of before) (labels rest) scope same) (joins.apart refl) in
+      let apart = subst Distinct (map_same (label_of before) (labels rest) scope same) joins.0 in
       let behind = subst (λ i. Tree (drop i rules)) next tree in
       subst (λ rs. Tree rs × Labelled after (labels rs)) (sym (rules_from rules j within))
-      ((apart, behind), λ f l. joins.merged refl f l ∙ merge_same (label_of before) (labels rest) scope f same (now_kept f l))
+      ((apart, behind), λ f l. joins.1 f l ∙ merge_same (label_of before) (labels rest) scope f same (now_kept f l))
 
   pub clash_ring : Joins (label_of before) (rule_at rules j).scope after false → Ring rules
   unfolding scope rest
   clash_ring joins =
-      (rings_decided 254 rules law).1
+      (rings_decided n rules law).1
       (λ whole.
       let here = subst Tree (rules_from rules j within) (tree_behind rules j whole) in
-      joins.clash refl (subst Distinct (sym (map_same (label_of before) (labels rest) scope same)) here.0))
+      joins (subst Distinct (sym (map_same (label_of before) (labels rest) scope same)) here.0))
 
 -- no rule is left
 pub whole_tree : (rules : List Rule) (k : ℕ) → k ≤ 0 → Tree (drop k rules) → Tree rules

@@ -1,10 +1,10 @@
 -- Rows after their rounds are settled. Assumes nothing.
-use Rattle.std.proofs.Common.{◌≡◌, ℕ, ◌<◌, true, ◌⊎◌, List, length, Ok, sym, ◌∙◌, subst, inl, inr}
+use Rattle.std.proofs.Common.{◌≡◌, ℕ, ◌<◌, true, ◌⊎◌, List, sym, ◌∙◌, subst, inl, inr}
 use Rattle.rows.specs.Values.{Values}
 use Rattle.rules.specs.Books.{sets}
 use Rattle.rules.specs.Rings.{Ring}
-use Rattle.rules.specs.Rules.{Rule}
-use Rattle.settle.specs.Answers.{FitsBook, Settles}
+use Rattle.rules.specs.Rules.{Rule, Lawful}
+use Rattle.settle.specs.Answers.{Settled}
 use Rattle.settle.specs.Passes.{Beyond, Rounded, Emptied}
 use Rattle.settle.specs.Rounds.{Rounds, SomeEmpty, Settling, at_once, emptied, ringed, ringless}
 use Rattle.settle.specs.declared.outcome.Grade.{Grade}
@@ -12,29 +12,25 @@ use Rattle.settle.specs.declared.outcome.Grade.TheVariants.{Exact, Local, Nothin
 use Rattle.settle.proofs.Going.{sets_below}
 use Rattle.settle.proofs.Worth.{leaves, left_largest, left_exactly, left_few}
 
-module _ {R : Type 0} (values : R → Values) (span : ℕ) (inside : (r : R) (v : ℕ) → values r v ≡ true → v < span) (rules : List Rule) (n : ℕ) (before : List R) (fits : FitsBook rules n (length before)) where
-  settles_by : (after : List R) (g : Grade) (r : ℕ) → Settling n rules (sets values before) g r (sets values after) → Beyond n before after
-      → Settles values span rules n before after (Ok (record { grade = g; rounds = r }))
-  settles_by after g r settling beyond =
+module _ {R : Type 0} (values : R → Values) (span : ℕ) (inside : (r : R) (v : ℕ) → values r v ≡ true → v < span) (rules : List Rule) (n : ℕ) (before : List R) (law : Lawful n rules) where
+  settled_by : (after : List R) (g : Grade) (r : ℕ) → Settling n rules (sets values before) g r (sets values after) → Beyond n before after
+      → Settled values span rules n before after (record { grade = g; rounds = r })
+  settled_by after g r settling beyond =
       let B = sets values before in
       let S = sets values after in
-      let law = fits.lawful in
       let left = leaves law (λ f v l. sets_below values span inside before f v) settling in
       record {
-        accepted = λ _. record {
-          settling = settling;
-          beyond = beyond;
-          largest = left_largest span n rules B B S g r law (λ f v l e. e) (λ C st w. w) left;
-          exactly = left_exactly span n rules B B S g r law (λ f v l e. e) (λ C st w. w) left;
-          few_rounds = left_few span n rules B B S g r law (λ f v l e. e) (λ C st w. w) left;
-        };
-        refused = λ unfit. absurd (unfit fits);
+        settling = settling;
+        beyond = beyond;
+        largest = left_largest span n rules B B S g r law (λ f v l e. e) (λ C st w. w) left;
+        exactly = left_exactly span n rules B B S g r law (λ f v l e. e) (λ C st w. w) left;
+        few_rounds = left_few span n rules B B S g r law (λ f v l e. e) (λ C st w. w) left;
       }
 
   -- a row is empty after the rounds, and all were emptied
-  pub settles_none : (mid after : List R) (r : ℕ) → Rounded values rules n before mid r → SomeEmpty n (sets values mid) → Emptied values n mid after
-      → Settles values span rules n before after (Ok (record { grade = Nothing; rounds = r }))
-  settles_none mid after r rounded some gone = settles_by after Nothing r (go rounded.made) (λ f d l. gone.beyond f d l ∙ rounded.beyond f d l)
+  pub settled_none : (mid after : List R) (r : ℕ) → Rounded values rules n before mid r → SomeEmpty n (sets values mid) → Emptied values n mid after
+      → Settled values span rules n before after (record { grade = Nothing; rounds = r })
+  settled_none mid after r rounded some gone = settled_by after Nothing r (go rounded.made) (λ f d l. gone.beyond f d l ∙ rounded.beyond f d l)
     where
       go : (SomeEmpty n (sets values before) × (r ≡ 0)) ⊎ ((SomeEmpty n (sets values before) → ⊥) × Rounds n rules (sets values before) r (sets values mid))
           → Settling n rules (sets values before) Nothing r (sets values after)
@@ -51,8 +47,8 @@ module _ {R : Type 0} (values : R → Values) (span : ℕ) (inside : (r : R) (v 
         go (inl (at-start, none)) = absurd (full (rounded.stays at-start))
         go (inr both) = both
 
-    pub settles_ringed : Ring rules → Settles values span rules n before after (Ok (record { grade = Local; rounds = r }))
-    settles_ringed ring = settles_by after Local r (ringed ran.0 ran.1 full ring) rounded.beyond
+    pub settled_ringed : Ring rules → Settled values span rules n before after (record { grade = Local; rounds = r })
+    settled_ringed ring = settled_by after Local r (ringed ran.0 ran.1 full ring) rounded.beyond
 
-    pub settles_ringless : (Ring rules → ⊥) → Settles values span rules n before after (Ok (record { grade = Exact; rounds = r }))
-    settles_ringless free = settles_by after Exact r (ringless ran.0 ran.1 full free) rounded.beyond
+    pub settled_ringless : (Ring rules → ⊥) → Settled values span rules n before after (record { grade = Exact; rounds = r })
+    settled_ringless free = settled_by after Exact r (ringless ran.0 ran.1 full free) rounded.beyond

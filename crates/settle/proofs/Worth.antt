@@ -9,7 +9,7 @@ use Rattle.rules.proofs.Lists.{some_in}
 use Rattle.settle.specs.Leaves.{ChoiceIn, SettingIn, SettingWith, Largest, Exactly}
 use Rattle.settle.specs.Rounds.{SomeEmpty, AllEmpty, Settling, at_once, emptied, ringed, ringless, total, struck}
 use Rattle.settle.specs.declared.outcome.Grade.{Grade}
-use Rattle.settle.specs.declared.outcome.Grade.TheVariants.{Exact, Local, Nothing}
+use Rattle.settle.specs.declared.outcome.Grade.TheVariants.{Exact, Nothing}
 use Rattle.settle.proofs.Rounding.{Below, rounds_shrink, rounds_keep, rounds_stand, rounds_few, some_values}
 use Rattle.settle.proofs.Totals.{total_mono}
 
@@ -30,12 +30,6 @@ empty_within n S B none f v l e = absurd (both_ways (S f v) (none f v l) e)
 
 no_choice : (n : ℕ) (rules : List Rule) (S : Sets) → SomeEmpty n S → ChoiceIn n rules S → ⊥
 no_choice n rules S (f, l, none) (C, st, w) = let t = st.some_value f l in both_ways (S f t.0) (none t.0) (w f t.0 l t.1)
-
-exact_some : Exact ≡ Nothing → ⊥
-exact_some e = let z : ◌≡◌ {A = ℕ} 0 1 = cc in omega arith
-
-local_some : Local ≡ Nothing → ⊥
-local_some e = let z : ◌≡◌ {A = ℕ} 0 1 = cc in omega arith
 
 pub leaves : {span n : ℕ} {rules : List Rule} {B S : Sets} {g : Grade} {r : ℕ} → Lawful n rules → Below span n B → Settling n rules B g r S → Leaves span n rules B S g r
 leaves {span} {n} {rules} {B} law low (at_once {S'' = S} some none) = record {
@@ -60,7 +54,7 @@ leaves {span} {n} {rules} {B} law low (ringed {r = r} {S' = S} alive R full ring
     record {
       shrinks = shrinks;
       contains = λ C st w. rounds_keep law.each C st R w;
-      ending = inr (local_some, record { some_value = some_values span n S (λ f v l e. low f v l (shrinks f v l e)) full; supported = rounds_stand law.each R full });
+      ending = inr (λ e. cc, record { some_value = some_values span n S (λ f v l e. low f v l (shrinks f v l e)) full; supported = rounds_stand law.each R full });
       exact = λ k d. absurd (k ring);
       few = rounds_few low R;
     }
@@ -69,7 +63,7 @@ leaves {span} {n} {rules} {B} law low (ringless {r = r} {S' = S} alive R full no
     record {
       shrinks = shrinks;
       contains = λ C st w. rounds_keep law.each C st R w;
-      ending = inr (exact_some, record { some_value = some_values span n S (λ f v l e. low f v l (shrinks f v l e)) full; supported = rounds_stand law.each R full });
+      ending = inr (λ e. cc, record { some_value = some_values span n S (λ f v l e. low f v l (shrinks f v l e)) full; supported = rounds_stand law.each R full });
       exact = λ k d. refl;
       few = rounds_few low R;
     }

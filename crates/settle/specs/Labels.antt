@@ -1,6 +1,6 @@
 -- The labels of fields, as they are kept while rings are looked for.
 -- Assumes nothing.
-use Rattle.std.specs.Prelude.{◌≡◌, ℕ, ◌<◌, Bool, true, false, cond, List, map, slice_index}
+use Rattle.std.specs.Prelude.{◌≡◌, ℕ, ◌<◌, Bool, cond, List, map, Option, MatchOption, MatchBool, slice_index}
 use Rattle.rules.specs.Rules.{Distinct}
 use Rattle.rules.specs.Seen.{was_seen}
 use Rattle.rules.specs.Tree.{member, merge}
@@ -19,14 +19,10 @@ Labelled kept L = (f : ℕ) → f < 256 → label_of kept f ≡ L f
 abbrev pub replaced : Seen → ℕ → (ℕ → ℕ) → ℕ → ℕ
 replaced met one L f = cond (was_seen met (L f)) one (L f)
 
--- noting the labels of a scope's fields says whether they are all different, and then just those have been met
-pub record NotesLabels (L : ℕ → ℕ) (scope : List ℕ) (met : Seen) (different : Bool) : Type 0 where
-  pub apart : different ≡ true → Distinct (map L scope)
-  pub noted : different ≡ true → (c : ℕ) → was_seen met c ≡ member c (map L scope)
-  pub clash : different ≡ false → Distinct (map L scope) → ⊥
+-- the labels of a scope's fields, all of them met and no other; none, if two of the fields are under one
+abbrev pub MeetsLabels : (ℕ → ℕ) → List ℕ → Option Seen → Type 0
+MeetsLabels L scope r = MatchOption r (Distinct (map L scope) → ⊥) (λ met. Distinct (map L scope) × ((c : ℕ) → was_seen met c ≡ member c (map L scope)))
 
 -- the fields of a scope are brought under one label, if theirs are all different
-pub record Joins (L : ℕ → ℕ) (scope : List ℕ) (after : Labels) (joined : Bool) : Type 0 where
-  pub apart : joined ≡ true → Distinct (map L scope)
-  pub merged : joined ≡ true → Labelled after (merge L scope)
-  pub clash : joined ≡ false → Distinct (map L scope) → ⊥
+abbrev pub Joins : (ℕ → ℕ) → List ℕ → Labels → Bool → Type 0
+Joins L scope after joined = MatchBool joined (Distinct (map L scope) × Labelled after (merge L scope)) (Distinct (map L scope) → ⊥)

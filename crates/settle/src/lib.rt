@@ -4,8 +4,8 @@
 // choice within the rows given, and without a ring exactly the values of full settings.
 #![tactic(auto)]
 
-mod labelling;
 mod labels;
+mod lawful_book;
 pub mod outcome;
 pub mod rings;
 mod rounds;

@@ -27,6 +27,7 @@ impl fmt::Display for Grade {
     }
 }
 
+// What became of the rows.
 #[derive(Clone, Copy, PartialEq, Eq, Debug)]
 pub struct Outcome {
     pub grade: Grade,

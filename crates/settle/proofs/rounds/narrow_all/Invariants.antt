@@ -1,5 +1,0 @@
-use Rattle.settle.proofs.Passing.{SoFar}
-use Rattle.settle.proofs.rounds.narrow_all.Given as goal
-
-abbrev pub invariant-loop-k : goal.invariant-loop-k
-invariant-loop-k g l = SoFar g.R.Row.values (g.B.Book.rules l.book) l.n l.k l.initial.rows l.rows l.changed
