@@ -42,9 +42,7 @@ fn narrow_pair<R: Row>(one: usize, other: usize, rows: &mut [R]) -> bool
 {
     let first = rows[one];
     let second = rows[other];
-    let mut changed = replace(rows, one, beside(first, second));
-    changed |= replace(rows, other, beside(second, first));
-    changed
+    replace(rows, one, beside(first, second)) | replace(rows, other, beside(second, first))
 }
 
 impl<'a, R: Row> Book<R> for Differing<'a> {

@@ -21,35 +21,37 @@ const NONE: Range = (1, 0);
 
 // A row for each range.
 fn rows_of<R: Row>(heap: Global, ranges: &[Range]) -> Result<Vec<R>, AllocError> {
-    let mut rows = Vec::new(heap);
-    for (low, high) in ranges {
-        rows.push(R::make(*low, *high))?;
-    }
-    Ok(rows)
+    ranges
+        .iter()
+        .map(|(low, high)| R::make(*low, *high))
+        .collect(heap)
+}
+
+// Whether a row has just the values of a range.
+fn reads_as<R: Row>(row: R, (low, high): Range) -> bool {
+    let wanted = R::make(low, high);
+    row.minus(wanted).is_empty() && wanted.minus(row).is_empty()
 }
 
 // Whether each row has just the values of its range.
 fn holds<R: Row>(rows: &[R], ranges: &[Range]) -> bool {
-    for (row, (low, high)) in rows.iter().zip(ranges) {
-        let wanted = R::make(*low, *high);
-        if !row.minus(wanted).is_empty() || !wanted.minus(*row).is_empty() {
-            return false;
-        }
-    }
     rows.len() == ranges.len()
+        && rows
+            .iter()
+            .zip(ranges)
+            .all(|(row, range)| reads_as(*row, *range))
 }
 
 // Settling all but the last row, which is beyond the fields, tells the outcome and leaves the
 // ranges.
 fn settles<R: Row, B: Book<R>>(
-    rt: &impl Abort,
-    heap: Global,
+    rt: &(impl Abort + AllocGlobal),
     book: &B,
     ranges: &[Range],
     outcome: Result<Outcome, NarrowFault>,
     left: &[Range],
 ) -> Result<(), Fail> {
-    let mut rows = rows_of::<R>(heap, ranges)?;
+    let mut rows = rows_of::<R>(rt.alloc(), ranges)?;
     assert!(rt; rows.len() > 0);
     let n = rows.len() - 1;
     assert_eq!(rt; settle(book, n, rows.as_mut_slice()), outcome);
@@ -62,13 +64,12 @@ fn told(grade: Grade, rounds: u32) -> Result<Outcome, NarrowFault> {
 }
 
 // A path of fields has no ring, so each value left stands in a full setting.
-fn path<R: Row>(rt: &impl Abort, heap: Global) -> Result<(), Fail> {
+fn path<R: Row>(rt: &(impl Abort + AllocGlobal)) -> Result<(), Fail> {
     let pairs = [Pair { one: 0, other: 1 }, Pair { one: 1, other: 2 }];
     let book = Differing { pairs: &pairs };
     assert_eq!(rt; has_ring::<R, Differing>(&book), Ok(false));
     settles::<R, Differing>(
         rt,
-        heap,
         &book,
         &[(0, 2), (0, 1), (1, 1), (7, 9)],
         told(Grade::Exact, 3),
@@ -76,7 +77,6 @@ fn path<R: Row>(rt: &impl Abort, heap: Global) -> Result<(), Fail> {
     )?;
     settles::<R, Differing>(
         rt,
-        heap,
         &book,
         &[(5, 5), (5, 5), (0, 3), (7, 9)],
         told(Grade::Nothing, 1),
@@ -84,7 +84,6 @@ fn path<R: Row>(rt: &impl Abort, heap: Global) -> Result<(), Fail> {
     )?;
     settles::<R, Differing>(
         rt,
-        heap,
         &book,
         &[(0, 9), (0, 9), NONE, (7, 9)],
         told(Grade::Nothing, 0),
@@ -94,7 +93,7 @@ fn path<R: Row>(rt: &impl Abort, heap: Global) -> Result<(), Fail> {
 
 // Three fields of two values cannot all differ, and each pair of them can: the rules have a ring,
 // and what is left is the largest standing choice.
-fn triangle<R: Row>(rt: &impl Abort, heap: Global) -> Result<(), Fail> {
+fn triangle<R: Row>(rt: &(impl Abort + AllocGlobal)) -> Result<(), Fail> {
     let pairs = [
         Pair { one: 0, other: 1 },
         Pair { one: 1, other: 2 },
@@ -104,7 +103,6 @@ fn triangle<R: Row>(rt: &impl Abort, heap: Global) -> Result<(), Fail> {
     assert_eq!(rt; has_ring::<R, Differing>(&book), Ok(true));
     settles::<R, Differing>(
         rt,
-        heap,
         &book,
         &[(0, 1), (0, 1), (0, 1), (7, 9)],
         told(Grade::Local, 1),
@@ -112,7 +110,6 @@ fn triangle<R: Row>(rt: &impl Abort, heap: Global) -> Result<(), Fail> {
     )?;
     settles::<R, Differing>(
         rt,
-        heap,
         &book,
         &[(0, 0), (0, 1), (0, 1), (7, 9)],
         told(Grade::Nothing, 1),
@@ -120,7 +117,6 @@ fn triangle<R: Row>(rt: &impl Abort, heap: Global) -> Result<(), Fail> {
     )?;
     settles::<R, Differing>(
         rt,
-        heap,
         &book,
         &[(0, 0), (0, 1), (0, 2), (7, 9)],
         told(Grade::Local, 2),
@@ -129,7 +125,7 @@ fn triangle<R: Row>(rt: &impl Abort, heap: Global) -> Result<(), Fail> {
 }
 
 // A table and a foreign book as one: field 2 is looked up from field 0, and differs from field 1.
-fn joined<R: Row>(rt: &impl Abort, heap: Global) -> Result<(), Fail> {
+fn joined<R: Row>(rt: &(impl Abort + AllocGlobal)) -> Result<(), Fail> {
     let axis = Axis {
         field: 0,
         extent: 2,
@@ -152,7 +148,6 @@ fn joined<R: Row>(rt: &impl Abort, heap: Global) -> Result<(), Fail> {
     assert_eq!(rt; has_ring::<R, Joined<Tables, Differing>>(&book), Ok(false));
     settles::<R, Joined<Tables, Differing>>(
         rt,
-        heap,
         &book,
         &[(0, 4), (30, 30), (20, 60), (7, 9)],
         told(Grade::Exact, 3),
@@ -161,19 +156,19 @@ fn joined<R: Row>(rt: &impl Abort, heap: Global) -> Result<(), Fail> {
 }
 
 // What does not fit is refused, and the rows stay as they are.
-fn refuses<R: Row>(rt: &impl Abort, heap: Global) -> Result<(), Fail> {
+fn refuses<R: Row>(rt: &(impl Abort + AllocGlobal)) -> Result<(), Fail> {
     let twice = [Pair { one: 1, other: 1 }];
     let far = [Pair { one: 0, other: 3 }];
     let ranges = [(0, 1), (0, 1), (0, 1), (7, 9)];
     for pairs in [&twice, &far] {
         let book = Differing { pairs };
-        settles::<R, Differing>(rt, heap, &book, &ranges, Err(NarrowFault::Unfit), &ranges)?;
+        settles::<R, Differing>(rt, &book, &ranges, Err(NarrowFault::Unfit), &ranges)?;
     }
     assert_eq!(rt;
         has_ring::<R, Differing>(&Differing { pairs: &twice }),
         Err(NarrowFault::Unfit)
     );
-    let mut rows = rows_of::<R>(heap, &ranges)?;
+    let mut rows = rows_of::<R>(rt.alloc(), &ranges)?;
     let book = Differing { pairs: &[] };
     assert_eq!(rt;
         settle(&book, 5, rows.as_mut_slice()),
@@ -189,24 +184,24 @@ fn refuses<R: Row>(rt: &impl Abort, heap: Global) -> Result<(), Fail> {
 
 #[test]
 fn a_path_settles_exactly(rt: HostRuntime) -> Result<(), Fail> {
-    path::<Bits>(&rt, rt.alloc())?;
-    path::<Runs>(&rt, rt.alloc())
+    path::<Bits>(&rt)?;
+    path::<Runs>(&rt)
 }
 
 #[test]
 fn a_triangle_settles_locally(rt: HostRuntime) -> Result<(), Fail> {
-    triangle::<Bits>(&rt, rt.alloc())?;
-    triangle::<Runs>(&rt, rt.alloc())
+    triangle::<Bits>(&rt)?;
+    triangle::<Runs>(&rt)
 }
 
 #[test]
 fn a_table_and_a_foreign_book_settle_as_one(rt: HostRuntime) -> Result<(), Fail> {
-    joined::<Bits>(&rt, rt.alloc())?;
-    joined::<Runs>(&rt, rt.alloc())
+    joined::<Bits>(&rt)?;
+    joined::<Runs>(&rt)
 }
 
 #[test]
 fn what_does_not_fit_is_refused(rt: HostRuntime) -> Result<(), Fail> {
-    refuses::<Bits>(&rt, rt.alloc())?;
-    refuses::<Runs>(&rt, rt.alloc())
+    refuses::<Bits>(&rt)?;
+    refuses::<Runs>(&rt)
 }
