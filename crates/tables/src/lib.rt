@@ -11,4 +11,5 @@ mod narrowing;
 pub mod reading;
 pub mod record;
 mod scan;
+pub mod scope;
 mod view;
