@@ -11,9 +11,8 @@ use Rattle.rules.specs.Books.{no_rule}
 use Rattle.rules.specs.Rules.{In, Distinct, EachRule, LawfulRule}
 use Rattle.draft.specs.Entries.{lacking, frame_lines, with_frame, frame_noted}
 use Rattle.draft.specs.Faults.{uppermost}
-use Rattle.draft.specs.Lists.{pairs, pair_count, part_of, named, all_below, distinct}
+use Rattle.draft.specs.Lists.{pairs, pair_count, part_of, first_field, all_below, distinct}
 use Rattle.draft.specs.Memory.{Held}
-use Rattle.draft.specs.declared.pairs.Naming.TheVariants.{First}
 use Rattle.draft.specs.declared.state.Draft.{Draft}
 use Rattle.draft.proofs.AcceptedLines.{none_met}
 use Rattle.draft.proofs.FieldTests.{below_from_test, apart_from_test}
@@ -42,7 +41,7 @@ last_lawful n limit before parts first count at long some few below apart =
 module _ (d : Draft) (limit : ℕ) (list : List ℕ) (m : Held) where
   -- the frames with one more
   frames_kept : d.frames < length m.frames → d.parts + pair_count list ≤ length m.parts → 1 ≤ pair_count list → pair_count list ≤ 64
-      → all_below d.fields (named First (pairs list)) ≡ true → distinct (named First (pairs list)) ≡ true
+      → all_below d.fields (map first_field (pairs list)) ≡ true → distinct (map first_field (pairs list)) ≡ true
       → FramesKept d m → FramesKept (with_frame d (pair_count list)) (frame_noted m d limit list)
   frames_kept more fits some few below apart each =
       let count = pair_count list in
@@ -53,8 +52,8 @@ module _ (d : Draft) (limit : ℕ) (list : List ℕ) (m : Held) where
       let before : length old ≡ d.parts = length-take-le d.parts m.parts (omega arith) in
       let names = part_fields (pairs list) in
       let lawful = last_lawful d.fields limit old parts d.parts count before long some few
-      (λ f i. below_from_test d.fields (named First (pairs list)) below f (subst (In f) (sym names) i))
-      (subst Distinct names (apart_from_test (named First (pairs list)) apart)) in
+      (λ f i. below_from_test d.fields (map first_field (pairs list)) below f (subst (In f) (sym names) i))
+      (subst Distinct names (apart_from_test (map first_field (pairs list)) apart)) in
       let olds = each_made (LawfulRule d.fields) (frame_rule old) (frame_rule (old ++ parts)) (frame_longer d.fields old parts) (take d.frames m.frames) each in
       let both = each_both (LawfulRule d.fields) (map (frame_rule (old ++ parts)) (take d.frames m.frames)) (frame_rule (old ++ parts) frame ∷ []) olds (lawful, tt) in
       subst (λ ps. EachRule (LawfulRule d.fields) (map (frame_rule ps) (take (d.frames + 1) (set m.frames d.frames frame)))) (sym (front_written m.parts d.parts count parts long fits))
@@ -83,5 +82,5 @@ module _ (d : Draft) (limit : ℕ) (list : List ℕ) (m : Held) where
         ranges = kept.ranges;
         tables = elim kept.tables [ inl closed ↦ inl (record { none = closed.none; each = closed.each }) | inr opened ↦ absurd (omega (arith, opened.0)) ];
         frames = frames_kept more fits some most
-            (not-false (all_below d.fields (named First (pairs list))) tests.1.1.1.1.0) (not-false (distinct (named First (pairs list))) tests.1.1.1.1.1.0) kept.frames;
+            (not-false (all_below d.fields (map first_field (pairs list))) tests.1.1.1.1.0) (not-false (distinct (map first_field (pairs list))) tests.1.1.1.1.1.0) kept.frames;
       }

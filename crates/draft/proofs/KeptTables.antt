@@ -1,5 +1,5 @@
 -- Entering the head of a table, and its cells, keeps what is kept of a draft. Assumes nothing.
-use Rattle.std.proofs.Common.{◌≡◌, ℕ, suc, ◌+◌, ◌-◌, ◌<◌, ◌≤◌, min, true, List, [], ◌∷◌, ◌++◌, map, length, get_or, take, drop, set, None, sym, ap, ◌∙◌, subst, inl, inr, ⊎_elim, arith, length-take-le, take-suc, get_or-set_same}
+use Rattle.std.proofs.Common.{◌≡◌, ℕ, suc, ◌+◌, ◌-◌, ◌<◌, ◌≤◌, min, true, List, [], ◌∷◌, ◌++◌, map, length, get_or, take, drop, set, filter_map, None, sym, ap, ◌∙◌, subst, inl, inr, ⊎_elim, arith, length-take-le, take-suc, get_or-set_same}
 use lib.Seq.{take-set-le}
 use Rattle.std.proofs.lemmas.List.{append-nil, append_assoc, length-map, map-append}
 use Rattle.std.proofs.lemmas.Bool.{cases_lt, cond-true, and_from, not-false, le-leb, ltb-false}
@@ -15,16 +15,15 @@ use Rattle.tables.specs.declared.record.Head.{Head}
 use Rattle.tables.proofs.ViewSteps.{room_some, fields_append}
 use Rattle.draft.specs.Entries.{lacking, head_lines, with_head, head_of, head_noted, next_cell, latest, scope_so_far, cell_lines, with_cells, cells_noted}
 use Rattle.draft.specs.Faults.{uppermost}
-use Rattle.draft.specs.Lists.{pairs, pair_count, axis_of, cell_of, named, all_below, distinct}
+use Rattle.draft.specs.Lists.{pairs, pair_count, axis_of, cell_of, first_field, marked_field, all_below, distinct}
 use Rattle.draft.specs.Memory.{Held, overlay}
-use Rattle.draft.specs.declared.pairs.Naming.TheVariants.{First, Marked}
 use Rattle.draft.specs.declared.state.Draft.{Draft}
 use Rattle.draft.proofs.AcceptedLines.{none_met, long_enough}
 use Rattle.draft.proofs.FieldTests.{below_from_test, apart_from_test}
 use Rattle.draft.proofs.Keeping.{Shaped, Closed, Opened, Kept}
 use Rattle.draft.proofs.LongerMemory.{each_both, tables_longer}
 use Rattle.draft.proofs.Overlays.{overlay_length, part_of_front, front_kept, part_written}
-use Rattle.draft.proofs.PairLists.{pairs_length, first_fields, cell_names, axes_again}
+use Rattle.draft.proofs.PairLists.{pairs_length, axis_fields, cell_names, axes_again}
 
 -- what is read where there is no head
 no_head : Head
@@ -86,7 +85,7 @@ module _ (d : Draft) (x : ℕ) (list : List ℕ) (m : Held) where
 
   -- the table begins with no cell entered
   head_opens : Closed d m → d.filled ≤ d.cells → d.tables < length m.heads → 1 ≤ pair_count list → pair_count list ≤ 4 → positive axes ≡ true → room axes ≤ 1024
-      → all_below d.fields (x ∷ named First (pairs list)) ≡ true → distinct (x ∷ named First (pairs list)) ≡ true
+      → all_below d.fields (x ∷ map first_field (pairs list)) ≡ true → distinct (x ∷ map first_field (pairs list)) ≡ true
       → Opened (latest (with_head d (room axes)) (head_noted m d.tables (head_of x list d.cells))) (with_head d (room axes)) (head_noted m d.tables (head_of x list d.cells))
   unfolding axes no_head
   head_opens closed counted more some few extents small below apart =
@@ -100,18 +99,18 @@ module _ (d : Draft) (x : ℕ) (list : List ℕ) (m : Held) where
       let before : take (d.tables + 1 - 1) (set m.heads d.tables head) ≡ take d.tables m.heads =
       ap (λ k. take k (set m.heads d.tables head)) place ∙ take-set-le d.tables m.heads d.tables head (omega arith) in
       let start : next_cell after - d.cells ≡ 0 = omega arith in
-      let scope : table_scope x (axes_of head) (take (next_cell after - d.cells) (drop d.cells m.cells)) ≡ x ∷ named First (pairs list) =
+      let scope : table_scope x (axes_of head) (take (next_cell after - d.cells) (drop d.cells m.cells)) ≡ x ∷ map first_field (pairs list) =
       ap (λ k. table_scope x (axes_of head) (take k (drop d.cells m.cells))) start
       ∙ ap (λ axs. x ∷ (map (λ ax. ax.field) axs ++ [])) same
-      ∙ ap (λ fs. x ∷ fs) (append-nil (map (λ ax. ax.field) axes) ∙ sym (first_fields (pairs list))) in
+      ∙ ap (λ fs. x ∷ fs) (append-nil (map (λ ax. ax.field) axes) ∙ sym (axis_fields (pairs list))) in
       subst (λ h. Opened h after m') (sym is) (record {
         some = omega arith;
         each = subst (λ hs. EachRule (LawfulRule d.fields) (map (table_rule (take d.cells m.cells)) hs)) (sym before) closed.each;
         shape = record { some = some; few = few; extents = subst (λ axs. positive axs ≡ true) (sym same) extents; small = omega arith };
         whole = omega arith;
         lacks = omega (arith, closed.none);
-        below = λ f i. below_from_test d.fields (x ∷ named First (pairs list)) below f (subst (In f) scope i);
-        apart = subst Distinct (sym scope) (apart_from_test (x ∷ named First (pairs list)) apart);
+        below = λ f i. below_from_test d.fields (x ∷ map first_field (pairs list)) below f (subst (In f) scope i);
+        apart = subst Distinct (sym scope) (apart_from_test (x ∷ map first_field (pairs list)) apart);
       })
 
   pub head_kept : {R : Type 0} (values : R → Values) (rows : List R) → uppermost (head_lines d (length rows) m x list) ≡ None → Kept values d rows m
@@ -140,7 +139,7 @@ module _ (d : Draft) (x : ℕ) (list : List ℕ) (m : Held) where
           | inl closed ↦ inr (
             omega (arith, room_some axes extents, kept.counted),
             head_opens closed kept.counted more some most extents small
-                (not-false (all_below d.fields (x ∷ named First (pairs list))) tests.1.1.1.1.0) (not-false (distinct (x ∷ named First (pairs list))) tests.1.1.1.1.1.0),
+                (not-false (all_below d.fields (x ∷ map first_field (pairs list))) tests.1.1.1.1.0) (not-false (distinct (x ∷ map first_field (pairs list))) tests.1.1.1.1.1.0),
           )
           | inr opened ↦ absurd (omega (arith, opened.0))
         ];
@@ -151,8 +150,8 @@ module _ (d : Draft) (x : ℕ) (list : List ℕ) (m : Held) where
 
 module _ (d : Draft) (list : List ℕ) (m : Held) where
   -- the latest table with more cells
-  cells_open : Opened (latest d m) d m → d.filled ≤ d.cells → d.cells ≤ length m.cells → pair_count list ≤ lacking d → all_below d.fields (named Marked (pairs list)) ≡ true
-      → distinct (scope_so_far d m ++ named Marked (pairs list)) ≡ true → Opened (latest d m) (with_cells d (pair_count list)) (cells_noted m (next_cell d) list)
+  cells_open : Opened (latest d m) d m → d.filled ≤ d.cells → d.cells ≤ length m.cells → pair_count list ≤ lacking d → all_below d.fields (filter_map marked_field (pairs list)) ≡ true
+      → distinct (scope_so_far d m ++ filter_map marked_field (pairs list)) ≡ true → Opened (latest d m) (with_cells d (pair_count list)) (cells_noted m (next_cell d) list)
   cells_open opened counted fits most below apart =
       let head = latest d m in
       let count = pair_count list in
@@ -173,19 +172,19 @@ module _ (d : Draft) (list : List ℕ) (m : Held) where
       let fields = map (λ ax. ax.field) (axes_of head) in
       let all-axes : min head.axis_count 4 ≡ head.axis_count = omega (arith, opened.shape.few) in
       let so_far : scope_so_far d m ≡ table_scope head.x (axes_of head) old = ap (λ k. head.x ∷ (map (λ ax. ax.field) (take k head.axes) ++ cell_fields old)) all-axes in
-      let scope : table_scope head.x (axes_of head) (take (next_cell after - head.first) (drop head.first written)) ≡ scope_so_far d m ++ named Marked (pairs list) =
+      let scope : table_scope head.x (axes_of head) (take (next_cell after - head.first) (drop head.first written)) ≡ scope_so_far d m ++ filter_map marked_field (pairs list) =
       ap (table_scope head.x (axes_of head)) own
       ∙ ap (λ fs. head.x ∷ (fields ++ fs)) (fields_append old new ∙ ap (λ fs. cell_fields old ++ fs) (cell_names (pairs list)))
-      ∙ ap (λ fs. head.x ∷ fs) (sym (append_assoc fields (cell_fields old) (named Marked (pairs list))))
-      ∙ ap (λ fs. fs ++ named Marked (pairs list)) (sym so_far) in
+      ∙ ap (λ fs. head.x ∷ fs) (sym (append_assoc fields (cell_fields old) (filter_map marked_field (pairs list))))
+      ∙ ap (λ fs. fs ++ filter_map marked_field (pairs list)) (sym so_far) in
       record {
         some = opened.some;
         each = subst (λ cs. EachRule (LawfulRule d.fields) (map (table_rule cs) (take (d.tables - 1) m.heads))) (sym (front_kept m.cells at count new long within head.first from)) opened.each;
         shape = opened.shape;
         whole = whole;
         lacks = omega arith;
-        below = λ f i. ⊎_elim (λ old-field. opened.below f (subst (In f) so_far old-field)) (below_from_test d.fields (named Marked (pairs list)) below f) (in_either (scope_so_far d m) (named Marked (pairs list)) f (subst (In f) scope i));
-        apart = subst Distinct (sym scope) (apart_from_test (scope_so_far d m ++ named Marked (pairs list)) apart);
+        below = λ f i. ⊎_elim (λ old-field. opened.below f (subst (In f) so_far old-field)) (below_from_test d.fields (filter_map marked_field (pairs list)) below f) (in_either (scope_so_far d m) (filter_map marked_field (pairs list)) f (subst (In f) scope i));
+        apart = subst Distinct (sym scope) (apart_from_test (scope_so_far d m ++ filter_map marked_field (pairs list)) apart);
       }
 
   pub cells_kept : {R : Type 0} (values : R → Values) (rows : List R) → uppermost (cell_lines d (length rows) m list) ≡ None → Kept values d rows m
@@ -211,7 +210,7 @@ module _ (d : Draft) (list : List ℕ) (m : Held) where
           | inl closed ↦ absurd (omega (arith, closed.none))
           | inr was ↦
               let opened : Opened (latest d m) after m' = cells_open was.1 kept.counted long.cells_long most
-              (not-false (all_below d.fields (named Marked (pairs list))) tests.1.1.1.0) (not-false (distinct (scope_so_far d m ++ named Marked (pairs list))) tests.1.1.1.1.0) in
+              (not-false (all_below d.fields (filter_map marked_field (pairs list))) tests.1.1.1.0) (not-false (distinct (scope_so_far d m ++ filter_map marked_field (pairs list))) tests.1.1.1.1.0) in
               ⊎_elim
               (λ lacks. inr (lacks, opened))
               (λ last. inl (closing after m' opened (omega arith) (omega (arith, kept.counted)) long.heads_long (omega (arith, long.cells_long))))

@@ -1,6 +1,6 @@
 -- What each entry answers, and what the draft, the rows and the memory are then.
 -- Assumes nothing.
-use Rattle.std.specs.Prelude.{◌≡◌, ℕ, ◌+◌, ◌-◌, min, Bool, true, false, cond, not, ◌||◌, List, [], ◌∷◌, ◌++◌, map, length, take, drop, Some, None, Ok, Err, Result, MatchResult, ◌==◌, nat_le, nat_lt, slice_index_or, slice_set}
+use Rattle.std.specs.Prelude.{◌≡◌, ℕ, ◌+◌, ◌-◌, min, Bool, true, false, cond, not, ◌||◌, List, [], ◌∷◌, ◌++◌, map, length, take, drop, filter_map, Some, None, Ok, Err, Result, MatchResult, ◌==◌, nat_le, nat_lt, slice_index_or, slice_set}
 use Rattle.frames.specs.Reads.{frame_rule, frame_rules}
 use Rattle.frames.specs.declared.record.Frames.{Frames}
 use Rattle.rows.specs.Values.{Values, Same, from_to}
@@ -10,12 +10,11 @@ use Rattle.tables.specs.Reads.{room, positive, cell_fields, table_rule, table_ru
 use Rattle.tables.specs.declared.record.Head.{Head}
 use Rattle.tables.specs.declared.record.Tables.{Tables}
 use Rattle.draft.specs.Faults.{Lines, uppermost}
-use Rattle.draft.specs.Lists.{pairs, pair_count, odd, axis_of, part_of, cell_of, bad_mark, named, all_below, distinct, four_axes}
+use Rattle.draft.specs.Lists.{pairs, pair_count, odd, axis_of, part_of, cell_of, bad_mark, first_field, marked_field, all_below, distinct, four_axes}
 use Rattle.draft.specs.Memory.{Held, overlay}
 use Rattle.draft.specs.declared.fault.DraftFault.{DraftFault}
 use Rattle.draft.specs.declared.fault.DraftFault.TheVariants.{Short, Misplaced, BadRange, Shape, Full, NoSuchField, Twice}
 use Rattle.draft.specs.declared.fault.Refused.{Refused}
-use Rattle.draft.specs.declared.pairs.Naming.TheVariants.{First, Marked}
 use Rattle.draft.specs.declared.state.Draft.{Draft}
 
 -- a draft with nothing entered
@@ -37,14 +36,16 @@ short d rows m =
     nat_lt rows d.fields || (nat_lt (length m.ranges) d.fields || (nat_lt (length m.heads) d.tables
     || (nat_lt (length m.cells) d.cells || (nat_lt (length m.frames) d.frames || nat_lt (length m.parts) d.parts))))
 
+-- what every entry but that of cells asks first: places that hold what is entered, and no cell lacks
+abbrev pub ready_lines : Draft → ℕ → Held → Lines
+ready_lines d rows m = (short d rows m, Short) ∷ ((nat_lt 0 (lacking d), Misplaced) ∷ [])
+
 -- entering a field from lo to hi, in a kind of this span, over so many rows
 abbrev pub field_lines : ℕ → Draft → ℕ → Held → ℕ → ℕ → Lines
 field_lines span d rows m lo hi =
-    (short d rows m, Short)
-    ∷ ((nat_lt 0 (lacking d), Misplaced)
-    ∷ ((nat_lt hi lo || nat_le span hi, BadRange)
+    ready_lines d rows m ++ ((nat_lt hi lo || nat_le span hi, BadRange)
     ∷ ((nat_le 240 d.fields || (nat_le rows d.fields || nat_le (length m.ranges) d.fields), Full)
-    ∷ [])))
+    ∷ []))
 
 abbrev pub with_field : Draft → Draft
 with_field d = record { fields = d.fields + 1; tables = d.tables; cells = d.cells; filled = d.filled; frames = d.frames; parts = d.parts }
@@ -75,13 +76,11 @@ bad_head list =
 -- entering the head of a table that looks x up: all its cells count at once
 abbrev pub head_lines : Draft → ℕ → Held → ℕ → List ℕ → Lines
 head_lines d rows m x list =
-    (short d rows m, Short)
-    ∷ ((nat_lt 0 (lacking d), Misplaced)
-    ∷ ((bad_head list, Shape)
+    ready_lines d rows m ++ ((bad_head list, Shape)
     ∷ ((nat_le 64 d.tables || (nat_le (length m.heads) d.tables || (nat_lt 4096 (d.cells + room (map axis_of (pairs list))) || nat_lt (length m.cells) (d.cells + room (map axis_of (pairs list))))), Full)
-    ∷ ((not (all_below d.fields (x ∷ named First (pairs list))), NoSuchField)
-    ∷ ((not (distinct (x ∷ named First (pairs list))), Twice)
-    ∷ [])))))
+    ∷ ((not (all_below d.fields (x ∷ map first_field (pairs list))), NoSuchField)
+    ∷ ((not (distinct (x ∷ map first_field (pairs list))), Twice)
+    ∷ []))))
 
 abbrev pub with_head : Draft → ℕ → Draft
 with_head d room = record { fields = d.fields; tables = d.tables + 1; cells = d.cells + room; filled = d.filled; frames = d.frames; parts = d.parts }
@@ -117,8 +116,8 @@ cell_lines d rows m list =
     (short d rows m, Short)
     ∷ ((d.tables == 0 || (lacking d == 0 || nat_lt (lacking d) (pair_count list)), Misplaced)
     ∷ ((length list == 0 || (odd list || bad_mark (pairs list)), Shape)
-    ∷ ((not (all_below d.fields (named Marked (pairs list))), NoSuchField)
-    ∷ ((not (distinct (scope_so_far d m ++ named Marked (pairs list))), Twice)
+    ∷ ((not (all_below d.fields (filter_map marked_field (pairs list))), NoSuchField)
+    ∷ ((not (distinct (scope_so_far d m ++ filter_map marked_field (pairs list))), Twice)
     ∷ []))))
 
 abbrev pub with_cells : Draft → ℕ → Draft
@@ -135,13 +134,11 @@ EntersCells d list rows m m' answer =
 -- entering a frame
 abbrev pub frame_lines : Draft → ℕ → Held → List ℕ → Lines
 frame_lines d rows m list =
-    (short d rows m, Short)
-    ∷ ((nat_lt 0 (lacking d), Misplaced)
-    ∷ ((odd list || (pair_count list == 0 || nat_lt 64 (pair_count list)), Shape)
+    ready_lines d rows m ++ ((odd list || (pair_count list == 0 || nat_lt 64 (pair_count list)), Shape)
     ∷ ((nat_le 32 d.frames || (nat_le (length m.frames) d.frames || (nat_lt 1024 (d.parts + pair_count list) || nat_lt (length m.parts) (d.parts + pair_count list))), Full)
-    ∷ ((not (all_below d.fields (named First (pairs list))), NoSuchField)
-    ∷ ((not (distinct (named First (pairs list))), Twice)
-    ∷ [])))))
+    ∷ ((not (all_below d.fields (map first_field (pairs list))), NoSuchField)
+    ∷ ((not (distinct (map first_field (pairs list))), Twice)
+    ∷ []))))
 
 abbrev pub with_frame : Draft → ℕ → Draft
 with_frame d count = record { fields = d.fields; tables = d.tables; cells = d.cells; filled = d.filled; frames = d.frames + 1; parts = d.parts + count }

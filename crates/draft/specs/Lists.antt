@@ -1,13 +1,12 @@
 -- Lists of pairs of bytes: the axes of a head, cells, the parts of a frame.
 -- Assumes nothing.
-use Rattle.std.specs.Prelude.{ℕ, ◌/◌, ◌%◌, Bool, true, false, cond, not, ◌&&◌, ◌||◌, List, [], ◌∷◌, ◌++◌, length, take, ◌==◌, nat_lt}
+use Rattle.std.specs.Prelude.{ℕ, ◌/◌, ◌%◌, Bool, true, cond, not, ◌&&◌, List, [], ◌∷◌, ◌++◌, length, take, Some, None, Option, ◌==◌, nat_lt}
+use Rattle.std.specs.List.{list_all, list_any}
 use Rattle.frames.specs.declared.record.Part.{Part}
 use Rattle.rules.specs.Tree.{member}
 use Rattle.tables.specs.declared.record.Axis.{Axis}
 use Rattle.tables.specs.declared.record.Cell.{Cell}
 use Rattle.tables.specs.declared.record.Cell.TheVariants.{Constant, Field}
-use Rattle.draft.specs.declared.pairs.Naming.{Naming}
-use Rattle.draft.specs.declared.pairs.Naming.TheVariants.{First, Marked}
 
 -- the whole pairs of a list
 abbrev pub pairs : List ℕ → List (ℕ × ℕ)
@@ -37,23 +36,19 @@ cell_of p = cond (p.0 == 1) (Field p.1) (Constant p.1)
 
 -- some pair has a mark above 1
 abbrev pub bad_mark : List (ℕ × ℕ) → Bool
-bad_mark [] = false
-bad_mark (p ∷ ps) = nat_lt 1 p.0 || bad_mark ps
+bad_mark = list_any (λ p. nat_lt 1 p.0)
 
--- the fields that a pair names
-abbrev pub names : Naming → ℕ × ℕ → List ℕ
-names First p = p.0 ∷ []
-names Marked p = cond (p.0 == 1) (p.1 ∷ []) []
+-- the field that a pair of an axis or of a part names
+abbrev pub first_field : ℕ × ℕ → ℕ
+first_field p = p.0
 
--- the fields that pairs name, in order
-abbrev pub named : Naming → List (ℕ × ℕ) → List ℕ
-named naming [] = []
-named naming (p ∷ ps) = names naming p ++ named naming ps
+-- the field that a pair of a cell names, if its mark says that it names one
+abbrev pub marked_field : ℕ × ℕ → Option ℕ
+marked_field p = cond (p.0 == 1) (Some p.1) None
 
 -- every field of the list is below n
 abbrev pub all_below : ℕ → List ℕ → Bool
-all_below n [] = true
-all_below n (f ∷ fs) = nat_lt f n && all_below n fs
+all_below n = list_all (λ f. nat_lt f n)
 
 -- no field stands twice in the list
 abbrev pub distinct : List ℕ → Bool

@@ -4,7 +4,8 @@ ghost use Rattle.draft.specs.Faults.{fault_number};
 
 use crate::state::Draft;
 
-#[derive(Clone, Copy, PartialEq, Eq, Debug)]
+// In the order in which they are looked for.
+#[derive(Clone, Copy, PartialEq, Eq, PartialOrd, Ord, Debug)]
 pub enum DraftFault {
     // There are fewer rows than fields, or less memory than the entries fill.
     Short,
@@ -22,12 +23,12 @@ pub enum DraftFault {
     Twice,
 }
 
-impl DraftFault {
-    // The number that the refusal is known by.
-    pub fn number(self) -> u8
-        ensures { result ≡ fault_number self }
-    {
-        match self {
+// The number that the refusal is known by.
+impl From<DraftFault> for u8 {
+    ghost from_gives = { λ fault number. number ≡ fault_number fault };
+
+    fn from(fault: DraftFault) -> u8 {
+        match fault {
             DraftFault::Short => 8,
             DraftFault::Misplaced => 9,
             DraftFault::BadRange => 10,
@@ -40,7 +41,7 @@ impl DraftFault {
 }
 
 // A refused entry: the draft as it was, and why.
-#[derive(Drop)]
+#[derive(PartialEq, Eq, Debug, Drop)]
 pub struct Refused {
     pub draft: Draft,
     pub fault: DraftFault,

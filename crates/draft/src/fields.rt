@@ -1,7 +1,7 @@
 // A new draft, and entering fields.
 ghost use Rattle.std.specs.Prelude.{◌≡◌, length};
-ghost use Rattle.draft.specs.Entries.{EntersField, nothing, lacking, short, field_lines};
-ghost use Rattle.draft.specs.Faults.{uppermost};
+ghost use Rattle.draft.specs.Entries.{EntersField, nothing, lacking, short, ready_lines, field_lines};
+ghost use Rattle.draft.specs.Reading.{Checked};
 ghost use Rattle.draft.specs.Memory.{held};
 
 use crate::fault::{DraftFault, Refused};
@@ -53,26 +53,40 @@ impl Draft {
             || memory.parts.len() < self.parts
     }
 
-    // What is wrong with entering a field.
-    fn field_fault<R: Row>(&self, rows: &[R], memory: &Memory, lo: u8, hi: u8) -> Option<DraftFault>
-        ensures { result ≡ uppermost (field_lines R.Row.SPAN self.now (length rows.now) (held memory.now) lo hi) }
+    // Whether the lent places hold what is entered, and no cell lacks.
+    pub(crate) fn check_ready(&self, rows: usize, memory: &Memory) -> Result<(), DraftFault>
+        ensures { Checked (ready_lines self.now rows (held memory.now)) tt result }
     {
-        if self.is_short(rows.len(), memory) {
-            return Some(DraftFault::Short);
+        if self.is_short(rows, memory) {
+            return Err(DraftFault::Short);
         }
         if self.lacking_cells() > 0 {
-            return Some(DraftFault::Misplaced);
+            return Err(DraftFault::Misplaced);
         }
+        Ok(())
+    }
+
+    // What is wrong with entering a field, if anything is.
+    fn check_field<R: Row>(
+        &self,
+        rows: &[R],
+        memory: &Memory,
+        lo: u8,
+        hi: u8,
+    ) -> Result<(), DraftFault>
+        ensures { Checked (field_lines R.Row.SPAN self.now (length rows.now) (held memory.now) lo hi) tt result }
+    {
+        self.check_ready(rows.len(), memory)?;
         if lo > hi || hi as usize >= R::SPAN {
-            return Some(DraftFault::BadRange);
+            return Err(DraftFault::BadRange);
         }
         if self.fields >= FIELDS
             || self.fields >= rows.len()
             || self.fields >= memory.ranges.len()
         {
-            return Some(DraftFault::Full);
+            return Err(DraftFault::Full);
         }
-        None
+        Ok(())
     }
 
     // Enters a field with the values from lo to hi: makes its row, and notes its range.
@@ -85,7 +99,7 @@ impl Draft {
     ) -> Result<Draft, Refused>
         ensures { EntersField R.Row.values R.Row.SPAN self lo hi rows.old rows.new (held memory.old) (held memory.new) result }
     {
-        if let Some(fault) = self.field_fault(rows, memory, lo, hi) {
+        if let Err(fault) = self.check_field(rows, memory, lo, hi) {
             return Err(Refused { draft: self, fault });
         }
         rows[self.fields] = R::make(lo, hi);

@@ -1,60 +1,36 @@
 // Entering frames.
-ghost use Rattle.std.specs.Prelude.{◌≡◌, ◌+◌, ◌≤◌, map, length};
+ghost use Rattle.std.specs.Prelude.{length};
 ghost use Rattle.draft.specs.Entries.{EntersFrame, frame_lines};
-ghost use Rattle.draft.specs.Faults.{uppermost};
-ghost use Rattle.draft.specs.Lists.{distinct, named, pair_count, pairs, part_of};
-ghost use Rattle.draft.specs.Memory.{held, overlay};
-ghost use Rattle.draft.specs.declared.pairs.Naming.TheVariants.{First};
+ghost use Rattle.draft.specs.Memory.{held};
+ghost use Rattle.draft.specs.Reading.{Checked};
 
 use crate::fault::{DraftFault, Refused};
 use crate::memory::Memory;
-use crate::pairs::Naming;
-use crate::reading::{all_known, note_named};
+use crate::pairs::{Pairs, first_field, part_of};
+use crate::reading::{all_apart, all_known, write_from};
 use crate::state::Draft;
-use frames::record::{Frame, Part};
+use frames::record::Frame;
 use rows::Row;
-use rules::marks::Seen;
 
 // At most this many frames, and parts in all of them.
 const FRAMES: usize = 32;
 
 const PARTS: usize = 1024;
 
-// Writes the pairs of a list as parts, from a place on.
-fn write_parts(parts: &mut [Part], at: usize, list: &[u8])
-    requires { at + pair_count list.now ≤ length parts.old }
-    ensures { parts.new ≡ overlay parts.old at (map part_of (pairs list.now)) }
-{
-    for i in 0..list.len() / 2 {
-        parts[at + i] = Part {
-            field: list[2 * i],
-            load: list[2 * i + 1],
-        };
-    }
-}
-
-// Whether the parts are all different fields.
-fn parts_are_apart(list: &[u8]) -> bool
-    ensures { result ≡ distinct (named First (pairs list.now)) }
-{
-    let mut seen = Seen::none();
-    note_named(list, Naming::First, &mut seen)
-}
-
 impl Draft {
-    // What is wrong with entering a frame.
-    fn frame_fault<R: Row>(&self, rows: &[R], memory: &Memory, list: &[u8]) -> Option<DraftFault>
-        ensures { result ≡ uppermost (frame_lines self.now (length rows.now) (held memory.now) list.now) }
+    // What is wrong with entering a frame, if anything is.
+    fn check_frame<R: Row>(
+        &self,
+        rows: &[R],
+        memory: &Memory,
+        list: &[u8],
+    ) -> Result<(), DraftFault>
+        ensures { Checked (frame_lines self.now (length rows.now) (held memory.now) list.now) tt result }
     {
-        if self.is_short(rows.len(), memory) {
-            return Some(DraftFault::Short);
-        }
-        if self.lacking_cells() > 0 {
-            return Some(DraftFault::Misplaced);
-        }
+        self.check_ready(rows.len(), memory)?;
         let count = list.len() / 2;
         if list.len() % 2 == 1 || count == 0 || count > 64 {
-            return Some(DraftFault::Shape);
+            return Err(DraftFault::Shape);
         }
         let parts = self.parts.saturating_add(count);
         if self.frames >= FRAMES
@@ -62,15 +38,15 @@ impl Draft {
             || parts > PARTS
             || parts > memory.parts.len()
         {
-            return Some(DraftFault::Full);
+            return Err(DraftFault::Full);
         }
-        if !all_known(list, Naming::First, self.fields) {
-            return Some(DraftFault::NoSuchField);
+        if !all_known(Pairs(list).map(first_field), self.fields) {
+            return Err(DraftFault::NoSuchField);
         }
-        if !parts_are_apart(list) {
-            return Some(DraftFault::Twice);
+        if !all_apart(Pairs(list).map(first_field)) {
+            return Err(DraftFault::Twice);
         }
-        None
+        Ok(())
     }
 
     // Enters a frame: its parts, pairs of a field and a load, with all values and loads come to at
@@ -84,11 +60,11 @@ impl Draft {
     ) -> Result<Draft, Refused>
         ensures { EntersFrame self limit parts.now (length rows.now) (held memory.old) (held memory.new) result }
     {
-        if let Some(fault) = self.frame_fault(rows, memory, parts) {
+        if let Err(fault) = self.check_frame(rows, memory, parts) {
             return Err(Refused { draft: self, fault });
         }
         let count = parts.len() / 2;
-        write_parts(memory.parts, self.parts, parts);
+        write_from(memory.parts, self.parts, Pairs(parts).map(part_of));
         memory.frames[self.frames] = Frame {
             first: self.parts,
             count,

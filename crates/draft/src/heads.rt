@@ -1,26 +1,41 @@
 // Entering the head of a table.
-ghost use Rattle.std.specs.Prelude.{◌≡◌, ◌∷◌, map, length};
+ghost use Rattle.std.specs.Prelude.{◌≡◌, ◌≤◌, map, length};
 ghost use Rattle.tables.specs.Reads.{room};
 ghost use Rattle.draft.specs.Entries.{EntersHead, head_lines};
-ghost use Rattle.draft.specs.Lists.{axis_of, distinct, named, pairs};
+ghost use Rattle.draft.specs.Lists.{axis_of, four_axes, pair_count, pairs};
 ghost use Rattle.draft.specs.Memory.{held};
-ghost use Rattle.draft.specs.Reading.{IsRoomOf, MakesRoom};
-ghost use Rattle.draft.specs.declared.pairs.Naming.TheVariants.{First};
+ghost use Rattle.draft.specs.Reading.{Checked, IsRoomOf};
 
 use crate::fault::{DraftFault, Refused};
 use crate::memory::Memory;
-use crate::pairs::Naming;
-use crate::reading::{all_known, note_named, read_axes};
+use crate::pairs::{Pairs, axis_of, first_field};
+use crate::reading::{all_apart, all_known, write_from};
 use crate::state::Draft;
 use rows::Row;
-use rules::marks::Seen;
+use std::iter::once;
 use tables::reading::room_of;
-use tables::record::Head;
+use tables::record::{Axis, Head};
 
 // At most this many tables, and cells in all of them.
 const TABLES: usize = 64;
 
 const CELLS: usize = 4096;
+
+// An axis that is not read.
+const NO_AXIS: Axis = Axis {
+    field: 0,
+    extent: 0,
+};
+
+// The pairs of a head as axes.
+fn read_axes(list: &[u8]) -> [Axis; 4]
+    requires { pair_count list.now ≤ 4 }
+    ensures { result ≡ four_axes (map axis_of (pairs list.now)) }
+{
+    let mut axes = [NO_AXIS; 4];
+    write_from(&mut axes, 0, Pairs(list).map(axis_of));
+    axes
+}
 
 // How many cells a table over these axes has; none if the list makes no head.
 fn head_room(list: &[u8]) -> Option<usize>
@@ -34,14 +49,6 @@ fn head_room(list: &[u8]) -> Option<usize>
     room_of(&axes[0..count])
 }
 
-// Whether x and the axes are all different fields.
-fn head_is_apart(x: u8, list: &[u8]) -> bool
-    ensures { result ≡ distinct (x ∷ named First (pairs list.now)) }
-{
-    let mut seen = Seen::none();
-    seen.note(x) && note_named(list, Naming::First, &mut seen)
-}
-
 impl Draft {
     // How many cells the table will have, or what is wrong with entering its head.
     fn room_for_head<R: Row>(
@@ -51,17 +58,10 @@ impl Draft {
         x: u8,
         list: &[u8],
     ) -> Result<usize, DraftFault>
-        ensures { MakesRoom (head_lines self.now (length rows.now) (held memory.now) x list.now) (room (map axis_of (pairs list.now))) result }
+        ensures { Checked (head_lines self.now (length rows.now) (held memory.now) x list.now) (room (map axis_of (pairs list.now))) result }
     {
-        if self.is_short(rows.len(), memory) {
-            return Err(DraftFault::Short);
-        }
-        if self.lacking_cells() > 0 {
-            return Err(DraftFault::Misplaced);
-        }
-        let Some(room) = head_room(list) else {
-            return Err(DraftFault::Shape);
-        };
+        self.check_ready(rows.len(), memory)?;
+        let room = head_room(list).ok_or(DraftFault::Shape)?;
         let cells = self.cells.saturating_add(room);
         if self.tables >= TABLES
             || self.tables >= memory.heads.len()
@@ -70,10 +70,10 @@ impl Draft {
         {
             return Err(DraftFault::Full);
         }
-        if x as usize >= self.fields || !all_known(list, Naming::First, self.fields) {
+        if !all_known(once(x).chain(Pairs(list).map(first_field)), self.fields) {
             return Err(DraftFault::NoSuchField);
         }
-        if !head_is_apart(x, list) {
+        if !all_apart(once(x).chain(Pairs(list).map(first_field))) {
             return Err(DraftFault::Twice);
         }
         Ok(room)

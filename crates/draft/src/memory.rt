@@ -3,7 +3,7 @@ use frames::record::{Frame, Part};
 use tables::record::{Cell, Head};
 
 // The values that a field was entered with: lo to hi, both included.
-#[derive(Clone, Copy)]
+#[derive(Clone, Copy, PartialEq, Eq, Debug)]
 pub struct Range {
     pub lo: u8,
     pub hi: u8,

@@ -1,14 +1,17 @@
-use Rattle.std.proofs.Common.{length, sym, ◌∙◌, arith, rules}
+use Rattle.std.proofs.Common.{length, map, ap, rules, arith}
+use Rattle.draft.specs.Lists.{pairs, cell_of}
 use Rattle.draft.specs.Memory.{held}
-use Rattle.draft.proofs.EntryRoom.{cells_accepted}
+use Rattle.draft.proofs.Chains.{gives, made_given}
+use Rattle.draft.proofs.EntryRoom.{cells_fit}
+use Rattle.draft.proofs.PairLists.{pairs_length}
 use Rattle.draft.proofs.state.Draft.enter_cells.Goals as goal
 
-pub write_cells-requires : goal.write_cells-requires
-write_cells-requires g c =
-    let space = cells_accepted c.args.self (length c.args.rows.now) (held c.args.memory.now) c.args.cells.now (sym c.cells_fault.ensures ∙ c.in_default.is) in
-    omega (arith, space.room, space.cells)
+pub write_from-requires-clause-fits : goal.write_from-requires-clause-fits
+write_from-requires-clause-fits g c =
+    let fits = cells_fit c.args.self (length c.args.rows.now) (held c.args.memory.now) c.args.cells.now c.in_default.ensures.0 in
+    omega (arith, fits, ap (λ s. length (pairs s.0.now)) c.map.ensures.source, pairs_length c.args.cells.now)
 
-pub overflow_add-result : goal.overflow_add-result
-overflow_add-result g c =
-    let space = cells_accepted c.args.self (length c.args.rows.now) (held c.args.memory.now) c.args.cells.now (sym c.cells_fault.ensures ∙ c.in_default.is) in
-    search (rules, space.room, space.cells)
+pub returns : goal.returns
+returns g c =
+    let written = c.write_from.ensures (map cell_of (pairs c.args.cells.now)) (gives (made_given cell_of c.map.ensures.source c.map.ensures.closure (λ x r q k. search rules))) in
+    search rules
