@@ -3,7 +3,6 @@ use crate::lent::{Lent, Places};
 use crate::sheet::{AMPLE, MISSING, enter_sheet, filled, step};
 use bits::record::Bits;
 use draft::fault::DraftFault;
-use draft::memory::Memory;
 use draft::state::Draft;
 use frames::record::Frames;
 use rows::{OrderedRow, Row};
@@ -15,16 +14,20 @@ use std::process::Abort;
 use std::test::Fail;
 use tables::record::Tables;
 
-// The book tells these scopes, in order.
-fn tells<R: Row, B: Book<R>>(rt: &impl Abort, book: &B, scopes: &[&[u8]]) -> Result<(), Fail> {
-    assert_eq!(rt; book.rule_count(), scopes.len());
-    for k in 0..scopes.len() {
-        assert_eq!(rt; book.scope_size(k) as usize, scopes[k].len());
-        for place in 0..scopes[k].len() {
-            assert_eq!(rt; book.scope_field(k, place), scopes[k][place]);
-        }
+// The book tells these fields as the scope of rule k.
+fn tells_scope<R: Row, B: Book<R>>(rt: &impl Abort, book: &B, k: usize, scope: &[u8]) {
+    assert_eq!(rt; book.scope_size(k) as usize, scope.len());
+    for (place, field) in scope.iter().enumerate() {
+        assert_eq!(rt; book.scope_field(k, place), *field);
     }
-    Ok(())
+}
+
+// The book tells these scopes, in order.
+fn tells<R: Row, B: Book<R>>(rt: &impl Abort, book: &B, scopes: &[&[u8]]) {
+    assert_eq!(rt; book.rule_count(), scopes.len());
+    for (k, scope) in scopes.iter().enumerate() {
+        tells_scope(rt, book, k, scope);
+    }
 }
 
 // The own book of a draft tells these scopes.
@@ -34,55 +37,25 @@ fn own_book_tells<R: OrderedRow>(
     lent: &mut Lent<R>,
     scopes: &[&[u8]],
 ) -> Result<(), Fail> {
-    let memory = Memory {
-        ranges: lent.ranges.as_mut_slice(),
-        heads: lent.heads.as_mut_slice(),
-        cells: lent.cells.as_mut_slice(),
-        frames: lent.frames.as_mut_slice(),
-        parts: lent.parts.as_mut_slice(),
-    };
-    let answer = match draft.own_book(&memory) {
+    let memory = lent.lists.lend();
+    match draft.own_book(&memory) {
         Ok(book) => tells::<R, Joined<Tables, Frames>>(rt, &book, scopes),
-        Err(_) => Err(Fail::new("the own book is refused")),
-    };
-    let Memory {
-        ranges: _,
-        heads: _,
-        cells: _,
-        frames: _,
-        parts: _,
-    } = memory;
-    answer
+        Err(_) => return Err(Fail::new("the own book is refused")),
+    }
+    Ok(())
 }
 
 // Why the own book of a draft is refused; none if it is not.
 fn own_book_fault(draft: &Draft, lent: &mut Lent<Bits>) -> Option<DraftFault> {
-    let memory = Memory {
-        ranges: lent.ranges.as_mut_slice(),
-        heads: lent.heads.as_mut_slice(),
-        cells: lent.cells.as_mut_slice(),
-        frames: lent.frames.as_mut_slice(),
-        parts: lent.parts.as_mut_slice(),
-    };
-    let answer = match draft.own_book(&memory) {
-        Ok(_) => None,
-        Err(fault) => Some(fault),
-    };
-    let Memory {
-        ranges: _,
-        heads: _,
-        cells: _,
-        frames: _,
-        parts: _,
-    } = memory;
-    answer
+    let memory = lent.lists.lend();
+    draft.own_book(&memory).err()
 }
 
 // Tables come first, then frames, each in order; a table that lacks cells is not in it.
 fn books<R: OrderedRow>(rt: &impl Abort, heap: Global) -> Result<(), Fail> {
     let mut lent = Lent::<R>::blank(heap, AMPLE)?;
     own_book_tells(rt, &Draft::new(), &mut lent, &[])?;
-    let draft = enter_sheet(rt, &mut lent, true)?;
+    let draft = enter_sheet(rt, &mut lent, true);
     own_book_tells(rt, &draft, &mut lent, &[&[0, 1, 2], &[3, 4]])?;
     let after = step(rt, draft, &mut lent, MISSING);
     own_book_tells(
@@ -102,8 +75,8 @@ fn the_own_book_has_what_is_entered(rt: HostRuntime) -> Result<(), Fail> {
 // The own book of the small sheet over these places is refused.
 fn is_refused(rt: &impl Abort, heap: Global, places: Places) -> Result<(), Fail> {
     let mut whole = Lent::<Bits>::blank(heap, AMPLE)?;
-    let draft = enter_sheet(rt, &mut whole, true)?;
-    let mut lent = whole.copied(heap, places)?;
+    let draft = enter_sheet(rt, &mut whole, true);
+    let mut lent = whole.copied(places)?;
     assert_eq!(rt; own_book_fault(&draft, &mut lent), Some(DraftFault::Short));
     Ok(())
 }

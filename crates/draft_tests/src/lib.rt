@@ -9,8 +9,6 @@ mod lent;
 #[cfg(test)]
 mod limits_test;
 #[cfg(test)]
-mod numbers;
-#[cfg(test)]
 mod refusals_test;
 #[cfg(test)]
 mod sheet;

@@ -34,12 +34,12 @@ fn repeat<R: Row>(
     lent: &mut Lent<R>,
     steps: &[Step],
     times: usize,
-) -> Result<Draft, Fail> {
+) -> Draft {
     let mut latest = draft;
     for _ in 0..times {
-        latest = follow(rt, latest, lent, steps)?;
+        latest = follow(rt, latest, lent, steps);
     }
-    Ok(latest)
+    latest
 }
 
 const FIELD: [Step; 1] = [(Entry::Field(0, 1), &[], None)];
@@ -54,9 +54,9 @@ fn ends<R: Row>(
     others: &[Step],
 ) -> Result<(), Fail> {
     let mut lent = Lent::<R>::blank(heap, ROOMY)?;
-    let mut draft = repeat(rt, Draft::new(), &mut lent, &FIELD, fields)?;
-    draft = repeat(rt, draft, &mut lent, steps, times)?;
-    draft = follow(rt, draft, &mut lent, others)?;
+    let mut draft = repeat(rt, Draft::new(), &mut lent, &FIELD, fields);
+    draft = repeat(rt, draft, &mut lent, steps, times);
+    draft = follow(rt, draft, &mut lent, others);
     assert_eq!(rt; draft.lacking_cells(), 0);
     Ok(())
 }
@@ -159,12 +159,7 @@ fn there_are_at_most_32_frames(rt: HostRuntime) -> Result<(), Fail> {
 
 // Pairs of the fields from 0 on with the number 1.
 fn fields_with_one(heap: Global, count: u8) -> Result<Vec<u8>, AllocError> {
-    let mut list = Vec::new(heap);
-    for f in 0..count {
-        list.push(f)?;
-        list.push(1)?;
-    }
-    Ok(list)
+    (0..count).flat_map(|field| [field, 1]).collect(heap)
 }
 
 // Sixteen frames of 64 parts are all that fits; 65 parts make no frame.

@@ -76,12 +76,7 @@ fn places(fits: Fits, filled: Places) -> Places {
 }
 
 fn is_short(fits: Fits) -> bool {
-    for fit in fits {
-        if fit == Fit::Less {
-            return true;
-        }
-    }
-    false
+    fits.contains(&Fit::Less)
 }
 
 // Whether the lists that an entry writes have no room.
@@ -116,14 +111,6 @@ fn met_before(open: bool, fits: Fits, entry: Entry) -> Option<DraftFault> {
     }
 }
 
-// The number of a refusal, which is lower the higher its line stands; above all if there is none.
-fn line(fault: Option<DraftFault>) -> u8 {
-    match fault {
-        Some(met) => met.number(),
-        None => 255,
-    }
-}
-
 const BAD_RANGE: Option<DraftFault> = Some(DraftFault::BadRange);
 
 const MISPLACED: Option<DraftFault> = Some(DraftFault::Misplaced);
@@ -136,15 +123,11 @@ const NO_SUCH_FIELD: Option<DraftFault> = Some(DraftFault::NoSuchField);
 
 const TWICE: Option<DraftFault> = Some(DraftFault::Twice);
 
-// The uppermost refusal that the sheet, the memory or the case meets.
+// The uppermost refusal that the sheet, the memory or the case meets: the least, since refusals
+// are ordered as their lines stand.
 fn wanted(open: bool, fits: Fits, case: Step) -> Option<DraftFault> {
     let (entry, _, own) = case;
-    let before = met_before(open, fits, entry);
-    if line(own) < line(before) {
-        own
-    } else {
-        before
-    }
+    own.into_iter().chain(met_before(open, fits, entry)).min()
 }
 
 // A further field.
@@ -163,15 +146,15 @@ fn goes_on<R: Row>(rt: &impl Abort, draft: Draft, lent: &mut Lent<R>, open: bool
 // After a refusal the lent places are as they were, and the draft goes on.
 fn stays<R: Row>(
     rt: &impl Abort,
-    heap: Global,
     draft: Draft,
     tried: &Lent<R>,
     lent: Places,
     whole: &mut Lent<R>,
     open: bool,
 ) -> Result<(), Fail> {
-    let before = whole.copied(heap, lent)?;
-    assert!(rt; tried.is_same(heap, &before)?);
+    let before = whole.copied(lent)?;
+    assert!(rt; tried.has_rows_of(&before));
+    assert_eq!(rt; tried.lists, before.lists);
     goes_on(rt, draft, whole, open);
     Ok(())
 }
@@ -185,16 +168,16 @@ fn answers<R: Row>(
     case: Step,
 ) -> Result<(), Fail> {
     let mut whole = Lent::<R>::blank(heap, AMPLE)?;
-    let draft = enter_sheet(rt, &mut whole, open)?;
+    let draft = enter_sheet(rt, &mut whole, open);
     let lent = places(fits, filled(open));
-    let mut tried = whole.copied(heap, lent)?;
+    let mut tried = whole.copied(lent)?;
     let wanted = wanted(open, fits, case);
     let (entry, list, _) = case;
     let after = step(rt, draft, &mut tried, (entry, list, wanted));
     if wanted.is_none() {
         return Ok(());
     }
-    stays(rt, heap, after, &tried, lent, &mut whole, open)
+    stays(rt, after, &tried, lent, &mut whole, open)
 }
 
 fn answers_everywhere<R: Row>(rt: &impl Abort, heap: Global, case: Step) -> Result<(), Fail> {

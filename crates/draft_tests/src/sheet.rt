@@ -1,11 +1,9 @@
 // Entries as values, and a small sheet that is made of them.
 use crate::lent::{Lent, Places};
 use draft::fault::{DraftFault, Refused};
-use draft::memory::Memory;
 use draft::state::Draft;
 use rows::Row;
 use std::process::Abort;
-use std::test::Fail;
 
 // What is entered, beside a list of pairs.
 #[derive(Clone, Copy)]
@@ -28,13 +26,7 @@ pub(crate) fn enter<R: Row>(
     list: &[u8],
 ) -> Result<Draft, Refused> {
     let rows = lent.rows.as_mut_slice();
-    let mut memory = Memory {
-        ranges: lent.ranges.as_mut_slice(),
-        heads: lent.heads.as_mut_slice(),
-        cells: lent.cells.as_mut_slice(),
-        frames: lent.frames.as_mut_slice(),
-        parts: lent.parts.as_mut_slice(),
-    };
+    let mut memory = lent.lists.lend();
     match entry {
         Entry::Field(lo, hi) => draft.enter_field(rows, &mut memory, lo, hi),
         Entry::Table(x) => draft.enter_table(rows, &mut memory, x, list),
@@ -63,12 +55,12 @@ pub(crate) fn follow<R: Row>(
     draft: Draft,
     lent: &mut Lent<R>,
     steps: &[Step],
-) -> Result<Draft, Fail> {
+) -> Draft {
     let mut latest = draft;
     for each in steps {
         latest = step(rt, latest, lent, *each);
     }
-    Ok(latest)
+    latest
 }
 
 // Six fields, a table and a frame.
@@ -94,16 +86,12 @@ const BEGUN: [Step; 2] = [
 pub(crate) const MISSING: Step = (Entry::Cells, &[0, 200, 1, 0, 1, 4], None);
 
 // Enters the small sheet; cells lack if it is open.
-pub(crate) fn enter_sheet<R: Row>(
-    rt: &impl Abort,
-    lent: &mut Lent<R>,
-    open: bool,
-) -> Result<Draft, Fail> {
-    let draft = follow(rt, Draft::new(), lent, &WHOLE)?;
+pub(crate) fn enter_sheet<R: Row>(rt: &impl Abort, lent: &mut Lent<R>, open: bool) -> Draft {
+    let draft = follow(rt, Draft::new(), lent, &WHOLE);
     if open {
         follow(rt, draft, lent, &BEGUN)
     } else {
-        Ok(draft)
+        draft
     }
 }
 
