@@ -43,7 +43,7 @@ fn settled<R: OrderedRow, B: Book<R>>(
 fn lookup(x: u8, axis: Axis, first: usize) -> Head {
     Head {
         x,
-        axes: [axis, axis, axis, axis],
+        axes: [axis; 4],
         axis_count: 1,
         first,
     }
@@ -67,15 +67,14 @@ fn work_tasks<R: OrderedRow>(
     rows: &mut [R],
     memory: &mut Memory,
 ) -> io::Result<()> {
-    match enter_tasks(rows, memory) {
-        Ok(draft) => {
-            println!(rt; "entered as a sheet: log rate, filter order, blade loop")?;
-            match draft.own_book(memory) {
-                Ok(book) => settled(rt, &book, rows),
-                Err(fault) => refused(rt, fault),
-            }
-        }
-        Err(entry) => refused(rt, entry.fault),
+    let draft = match enter_tasks(rows, memory) {
+        Ok(draft) => draft,
+        Err(entry) => return refused(rt, entry.fault),
+    };
+    println!(rt; "entered as a sheet: log rate, filter order, blade loop")?;
+    match draft.own_book(memory) {
+        Ok(book) => settled(rt, &book, rows),
+        Err(fault) => refused(rt, fault),
     }
 }
 
@@ -95,10 +94,7 @@ fn settle_tasks<R: OrderedRow>(rt: &HostRuntime) -> io::Result<()> {
         limit: 0
     }; 1]?;
     let mut parts = vec![in heap; Part { field: 0, load: 0 }; 2]?;
-    let mut rows = Vec::new(heap);
-    for _ in 0..3 {
-        rows.push(R::make(1, 0))?;
-    }
+    let mut rows = vec![in heap; R::make(1, 0); 3]?;
     let mut memory = Memory {
         ranges: ranges.as_mut_slice(),
         heads: heads.as_mut_slice(),
@@ -109,32 +105,22 @@ fn settle_tasks<R: OrderedRow>(rt: &HostRuntime) -> io::Result<()> {
     work_tasks(rt, rows.as_mut_slice(), &mut memory)
 }
 
+// One line: by which number the sheet is refused.
 fn refused(rt: &HostRuntime, fault: DraftFault) -> io::Result<()> {
-    let number = fault.number();
+    let number = u8::from(fault);
     println!(rt; "the sheet is refused with {number}")
 }
 
 // Two fields are looked up from a third and are equal to it, and a last one, which is 1, is their
 // parity. The three rules are joined in a ring.
 fn settle_parities<R: OrderedRow>(rt: &HostRuntime) -> io::Result<()> {
-    let o = Axis {
-        field: 0,
-        extent: 2,
-    };
-    let p = Axis {
-        field: 1,
-        extent: 2,
-    };
-    let q = Axis {
-        field: 2,
-        extent: 2,
-    };
+    let axis = |field| Axis { field, extent: 2 };
     let heads = [
-        lookup(1, o, 0),
-        lookup(2, o, 0),
+        lookup(1, axis(0), 0),
+        lookup(2, axis(0), 0),
         Head {
             x: 3,
-            axes: [p, q, q, q],
+            axes: [axis(1), axis(2), axis(2), axis(2)],
             axis_count: 2,
             first: 2,
         },
@@ -152,10 +138,7 @@ fn settle_parities<R: OrderedRow>(rt: &HostRuntime) -> io::Result<()> {
         cells: &cells,
     };
     println!(rt; "a sheet of parities that no setting meets: o, p, q, x")?;
-    let mut rows = Vec::new(rt.alloc());
-    rows.push(R::make(0, 1))?;
-    rows.push(R::make(0, 1))?;
-    rows.push(R::make(0, 1))?;
+    let mut rows = vec![in rt.alloc(); R::make(0, 1); 3]?;
     rows.push(R::make(1, 1))?;
     settled(rt, &book, rows.as_mut_slice())
 }
