@@ -12,7 +12,8 @@ use Rattle.tables.specs.declared.found.Hits.TheVariants.{Only}
 use Rattle.tables.specs.declared.record.Axis.{Axis}
 use Rattle.tables.specs.declared.record.Cell.TheVariants.{Field}
 use Rattle.tables.specs.Scans.{Rests}
-use Rattle.tables.specs.Left.{OwnRows, axes_left, cell_left, table_left, hit_fields, cut_scope}
+use Rattle.rules.specs.Writes.{OwnRows}
+use Rattle.tables.specs.Left.{axes_left, cell_left, table_left, hit_fields, cut_scope}
 use Rattle.tables.proofs.LeftExact.{axes_agree, left_x, left_other, left_cell}
 use Rattle.tables.proofs.Lines.{axis_fields}
 

@@ -1,36 +1,30 @@
--- A table that reads well, and whose rule is lawful, can be narrowed; what narrowing it then promises. Assumes nothing.
-use Rattle.std.proofs.Common.{◌≡◌, ℕ, ◌-◌, ◌≤◌, Bool, List, length, take, Ok, sym, ap, ◌∙◌, subst, arith, length-take}
+-- What narrowing a table asks and promises. Assumes nothing.
+use Rattle.std.proofs.Common.{ℕ, ◌≤◌, Bool, List, length, Ok, subst, arith}
 use Rattle.rows.specs.Values.{Values}
-use Rattle.rules.specs.Books.{rule_at, Narrowing, Narrows}
+use Rattle.rules.specs.Books.{Narrowing, Narrows}
 use Rattle.rules.specs.Rules.{Sets, Rule, Distinct, LawfulRule, Narrowed}
+use Rattle.rules.specs.Writes.{OwnRows}
 use Rattle.tables.specs.Closure.{Closes}
-use Rattle.tables.specs.declared.record.Tables.{Tables}
-use Rattle.tables.specs.declared.view.Table.{Table}
-use Rattle.tables.specs.Reads.{room, positive, lookup_rule, table_rules}
 use Rattle.tables.specs.Scans.{Scannable}
-use Rattle.tables.specs.Views.{table_axes, ReadsAs}
+use Rattle.tables.specs.Views.{scope_of, rule_of}
+use Rattle.tables.specs.declared.view.Table.{Table}
 use Rattle.tables.proofs.Closing.{closes}
 use Rattle.tables.proofs.Picking.{axis_in_scope, cell_in_scope}
 
-module _ (book : Tables) (k : ℕ) (t : Table) (reads : ReadsAs book k t) where
-  -- the axes as a part of the slice
-  pub axes_part : take (t.axis_count - 0) t.axes ≡ table_axes t
-  axes_part = ap (λ n. take n t.axes) (omega arith)
+module _ (t : Table) where
+  -- where the rule of a table is lawful for n fields, each has its own of as many rows or more
+  pub own_rows : (n rows : ℕ) → n ≤ rows → LawfulRule n (rule_of t) → OwnRows (scope_of t) rows
+  own_rows n rows enough lawful = record { below = λ f h. omega (arith, lawful.below f h); distinct = lawful.apart }
 
-  -- every field of the table has a row
-  pub scannable : (n rows : ℕ) → n ≤ rows → LawfulRule n (lookup_rule t.x (take (t.axis_count - 0) t.axes) t.cells.now)
-      → Scannable 0 (take (t.axis_count - 0) t.axes) t.cells.now rows
-  scannable n rows enough lawful = record {
-    levels = simp length-take (omega (arith, reads.few));
-    extents = ap positive axes_part ∙ reads.positive;
-    long = reads.long ∙ ap room (sym axes_part);
-    axis_rows = λ f h. omega (arith, lawful.below f (axis_in_scope t.x (take (t.axis_count - 0) t.axes) t.cells.now f h));
-    cell_rows = λ f h. omega (arith, lawful.below f (cell_in_scope t.x (take (t.axis_count - 0) t.axes) t.cells.now f h));
+  -- a table whose fields have rows can be scanned
+  pub scannable : (rows : ℕ) → OwnRows (scope_of t) rows → Scannable 0 t.axes.now t.cells.now rows
+  scannable rows own = record {
+    levels = omega (arith, t.few);
+    extents = t.extents;
+    long = t.long;
+    axis_rows = λ f h. own.below f (axis_in_scope t.x t.axes.now t.cells.now f h);
+    cell_rows = λ f h. own.below f (cell_in_scope t.x t.axes.now t.cells.now f h);
   }
-
-  -- the rule of that part is rule k of the book
-  pub rule_is : lookup_rule t.x (take (t.axis_count - 0) t.axes) t.cells.now ≡ rule_at (table_rules book) k
-  rule_is = ap (λ axes. lookup_rule t.x axes t.cells.now) axes_part ∙ sym reads.rule
 
 -- a rule that fits, narrowed
 pub narrows_ok : {R : Type 0} (values : R → Values) (r : Rule) (k n : ℕ) (before after : List R) (changed : Bool)

@@ -6,7 +6,7 @@ use Rattle.std.proofs.lemmas.Bool.{cases_eq, cond-true, cond-false, eq-eqb, ne_e
 use Rattle.rows.specs.Values.{Values}
 use Rattle.rules.specs.Books.{sets, Narrowing}
 use Rattle.rules.specs.Rules.{Sets, In, Distinct, Supported}
-use Rattle.rules.specs.Writes.{Written}
+use Rattle.rules.specs.Writes.{Written, OwnRows, none_left}
 use Rattle.rules.proofs.WrittenBack.{all_written, some_written, in_either, in_first, in_second, halves_apart, first_distinct}
 use Rattle.tables.specs.declared.found.Hits.{Hits}
 use Rattle.tables.specs.declared.found.Hits.TheVariants.{Nothing, Only, Several}
@@ -14,9 +14,9 @@ use Rattle.tables.specs.declared.found.Marks.{Marks}
 use Rattle.tables.specs.declared.record.Axis.{Axis}
 use Rattle.tables.specs.declared.record.Cell.{Cell}
 use Rattle.tables.specs.declared.record.Cell.TheVariants.{Constant, Field}
-use Rattle.tables.specs.Left.{OwnRows, none_left, axes_left, cell_left, table_left, hit_fields, cut_scope}
-use Rattle.tables.specs.Reads.{cell_fields, table_scope, lookup_rule}
-use Rattle.tables.specs.Scans.{Rests, unmarked, Reaches, Hit, Tells, Swept, Scannable}
+use Rattle.tables.specs.Left.{axes_left, cell_left, table_left, hit_fields, cut_scope}
+use Rattle.tables.specs.Reads.{room, cell_fields, table_scope, lookup_rule}
+use Rattle.tables.specs.Scans.{Rests, unmarked, Reaches, Hit, Tells, Swept}
 use Rattle.tables.proofs.Exact.{axis_at, cell_new, no_hits, cell_exact, cell_exact_back, x_exact, x_exact_back, axis_exact, axis_exact_back}
 use Rattle.tables.proofs.Lines.{axis_fields, reached_field}
 use Rattle.tables.proofs.Picking.{cell_in_scope}
@@ -118,18 +118,7 @@ fewer_apart : (xs ys zs : List ℕ) → ((f : ℕ) → In f zs → In f ys) → 
 fewer_apart [] ys zs sub few apart = few
 fewer_apart (x ∷ xs) ys zs sub few apart = (λ k. apart.0 (fewer_in xs ys zs sub x k), fewer_apart xs ys zs sub few apart.1)
 
-module _ {R : Type 0} (values : R → Values) (x : ℕ) (axes : List Axis) (cells : List Cell) (before : List R) (fits : Scannable 0 axes cells (length before)) (below : x < length before)
-    (apart : Distinct (table_scope x axes cells)) where
-  -- every field of the table has its row
-  pub all_own : OwnRows (table_scope x axes cells) (length before)
-  all_own = record {
-    below = λ f h. elim h [
-      | inl e ↦ subst (λ u. u < length before) (sym e) below
-      | inr k ↦ ⊎_elim (fits.axis_rows f) (fits.cell_rows f) (in_either (axis_fields axes) (cell_fields cells) f k)
-    ];
-    distinct = apart;
-  }
-
+module _ {R : Type 0} (values : R → Values) (x : ℕ) (axes : List Axis) (cells : List Cell) (before : List R) (long : length cells ≡ room axes) (own : OwnRows (table_scope x axes cells) (length before)) where
   -- no value where nothing is supported
   pub dead_narrows : (after : List R) (changed : Bool) → ((f v : ℕ) → Supported (sets values before) (lookup_rule x axes cells) f v → ⊥)
       → Written values none_left (table_scope x axes cells) (length (table_scope x axes cells)) before after changed → Narrowing values (lookup_rule x axes cells) before after changed
@@ -148,13 +137,13 @@ module _ {R : Type 0} (values : R → Values) (x : ℕ) (axes : List Axis) (cell
 
     -- nothing is supported without a hit
     pub hitless : hits ≡ Nothing → (f v : ℕ) → Supported (sets values before) (lookup_rule x axes cells) f v → ⊥
-    hitless none f v s = no_hits (sets values before) x axes cells fits.long (subst (λ h. Tells h (Hit (sets values before) (sets values before x) (Reaches (sets values before) axes cells))) none by_x.told) s
+    hitless none f v s = no_hits (sets values before) x axes cells long (subst (λ h. Tells h (Hit (sets values before) (sets values before x) (Reaches (sets values before) axes cells))) none by_x.told) s
 
     -- every field that is cut has its row
     pub cut_own : OwnRows (cut_scope x axes hits) (length before)
     cut_own = record {
-      below = λ f h. all_own.below f (fewer_in (x ∷ axis_fields axes) (cell_fields cells) (hit_fields hits) (hit_in _ _ axes cells hits swept.told) f h);
-      distinct = fewer_apart (x ∷ axis_fields axes) (cell_fields cells) (hit_fields hits) (hit_in _ _ axes cells hits swept.told) (one_hit hits) apart;
+      below = λ f h. own.below f (fewer_in (x ∷ axis_fields axes) (cell_fields cells) (hit_fields hits) (hit_in _ _ axes cells hits swept.told) f h);
+      distinct = fewer_apart (x ∷ axis_fields axes) (cell_fields cells) (hit_fields hits) (hit_in _ _ axes cells hits swept.told) (one_hit hits) own.distinct;
     }
 
     -- exactly the supported values are left
@@ -171,16 +160,16 @@ module _ {R : Type 0} (values : R → Values) (x : ℕ) (axes : List Axis) (cell
         new = table_left values rests hits (sets values before) x axes
 
         apart_axes : Distinct (axis_fields axes)
-        apart_axes = first_distinct (axis_fields axes) (cell_fields cells) apart.1
+        apart_axes = first_distinct (axis_fields axes) (cell_fields cells) own.distinct.1
 
         x_no_axis : In x (axis_fields axes) → ⊥
-        x_no_axis h = apart.0 (in_first (axis_fields axes) (cell_fields cells) x h)
+        x_no_axis h = own.distinct.0 (in_first (axis_fields axes) (cell_fields cells) x h)
 
         not_x : (f : ℕ) → In f (cell_fields cells) → f ≡ x → ⊥
-        not_x f h e = apart.0 (in_second (axis_fields axes) (cell_fields cells) x (subst (λ u. In u (cell_fields cells)) e h))
+        not_x f h e = own.distinct.0 (in_second (axis_fields axes) (cell_fields cells) x (subst (λ u. In u (cell_fields cells)) e h))
 
         not_axis : (f : ℕ) → In f (cell_fields cells) → In f (axis_fields axes) → ⊥
-        not_axis f h k = halves_apart (axis_fields axes) (cell_fields cells) apart.1 f k h
+        not_axis f h k = halves_apart (axis_fields axes) (cell_fields cells) own.distinct.1 f k h
 
         at_cell : (f v : ℕ) → In f (cell_fields cells) → new f v ≡ cell_new hits (sets values before) x f v
         at_cell f v h = left_cell values rests hits (sets values before) x axes f v (not_x f h) (not_axis f h) ∙ cell_same hits (sets values before) x f v
@@ -199,26 +188,26 @@ module _ {R : Type 0} (values : R → Values) (x : ℕ) (axes : List Axis) (cell
         is_left : (f v : ℕ) → In f (table_scope x axes cells) → new f v ≡ true → Supported (sets values before) (lookup_rule x axes cells) f v
         is_left f v (inl e) stays =
             subst (λ u. Supported (sets values before) (lookup_rule x axes cells) u v) (sym e)
-            (x_exact values (sets values before) x axes cells start rests hits by_x apart filled start-x v
+            (x_exact values (sets values before) x axes cells start rests hits by_x own.distinct filled start-x v
             (sym (left_x values rests hits (sets values before) x axes v) ∙ subst (λ u. new u v ≡ true) e stays))
         is_left f v (inr h) stays = ⊎_elim
             (λ k. let t = at_axis f k in
             subst (λ u. Supported (sets values before) (lookup_rule x axes cells) u v) t.2
-            (axis_exact values (sets values before) x axes cells start rests hits by_x apart filled start-axes t.0 v t.1
+            (axis_exact values (sets values before) x axes cells start rests hits by_x own.distinct filled start-axes t.0 v t.1
             (sym (left_axis values rests hits (sets values before) x axes t.0 v t.1 x_no_axis apart_axes) ∙ subst (λ u. new u v ≡ true) (sym t.2) stays)))
-            (λ k. cell_exact (sets values before) x axes cells apart filled hits by_x.told f v k (sym (at_cell f v k) ∙ stays))
+            (λ k. cell_exact (sets values before) x axes cells own.distinct filled hits by_x.told f v k (sym (at_cell f v k) ∙ stays))
             (in_either (axis_fields axes) (cell_fields cells) f h)
 
         is_kept : (f v : ℕ) → In f (table_scope x axes cells) → Supported (sets values before) (lookup_rule x axes cells) f v → new f v ≡ true
         is_kept f v (inl e) s =
             subst (λ u. new u v ≡ true) (sym e)
             (left_x values rests hits (sets values before) x axes v
-            ∙ x_exact_back values (sets values before) x axes cells start rests hits by_x fits.long v (subst (λ u. Supported (sets values before) (lookup_rule x axes cells) u v) e s))
+            ∙ x_exact_back values (sets values before) x axes cells start rests hits by_x long v (subst (λ u. Supported (sets values before) (lookup_rule x axes cells) u v) e s))
         is_kept f v (inr h) s = ⊎_elim
             (λ k. let t = at_axis f k in
             subst (λ u. new u v ≡ true) t.2
             (left_axis values rests hits (sets values before) x axes t.0 v t.1 x_no_axis apart_axes
-            ∙ axis_exact_back values (sets values before) x axes cells start rests hits by_x fits.long t.0 v t.1
+            ∙ axis_exact_back values (sets values before) x axes cells start rests hits by_x long t.0 v t.1
             (subst (λ u. Supported (sets values before) (lookup_rule x axes cells) u v) (sym t.2) s)))
-            (λ k. at_cell f v k ∙ cell_exact_back (sets values before) x axes cells fits.long hits by_x.told f v k s)
+            (λ k. at_cell f v k ∙ cell_exact_back (sets values before) x axes cells long hits by_x.told f v k s)
             (in_either (axis_fields axes) (cell_fields cells) f h)

@@ -6,8 +6,8 @@ pub mod Fitting
 pub mod LeftExact
 pub mod Levels
 pub mod Lines
-pub mod NewFields
 pub mod Picking
+pub mod Scoping
 pub mod Sweeping
 pub mod TableAt
 pub mod ViewSteps

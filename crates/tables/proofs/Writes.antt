@@ -1,21 +1,17 @@
 -- The rows of a table, written one by one. Assumes nothing.
-use Rattle.std.proofs.Common.{◌≡◌, ℕ, ◌+◌, ◌<◌, Bool, ◌||◌, List, [], ◌∷◌, ◌++◌, length, get_or, take, drop, set, Decides, sym, refl, ap, ◌∙◌, subst, inl, inr, arith}
-use Rattle.std.proofs.lemmas.List.{length-map, get_or-map, take-map, take_more, map_more, take-append-drop}
+use Rattle.std.proofs.Common.{◌≡◌, ℕ, ◌+◌, ◌<◌, Bool, ◌||◌, List, [], ◌∷◌, ◌++◌, length, get_or, take, set, Decides, sym, subst, inl, inr, arith}
+use Rattle.std.proofs.lemmas.List.{length-map, get_or-map, take-map, map_more}
 use Rattle.rows.specs.Values.{Values}
 use Rattle.rules.specs.Books.{sets, Loses}
 use Rattle.rules.specs.Rules.{Sets, In, Distinct}
 use Rattle.rules.proofs.Fields.{front_apart}
 use Rattle.rules.specs.Writes.{Written}
-use Rattle.rules.proofs.WrittenBack.{one_written, written_append, still_old, halves_apart}
+use Rattle.rules.proofs.WrittenBack.{one_written, written_append, still_old}
 use Rattle.tables.specs.declared.record.Axis.{Axis}
-use Rattle.tables.specs.declared.record.Cell.{Cell}
-use Rattle.tables.specs.declared.record.Cell.TheVariants.{Constant, Field}
-use Rattle.tables.specs.Left.{OwnRows}
-use Rattle.tables.specs.Reads.{cell_fields}
+use Rattle.rules.specs.Writes.{OwnRows}
 use Rattle.tables.proofs.Blocks.{no_axis}
 use Rattle.tables.proofs.Exact.{axis_at}
 use Rattle.tables.proofs.Lines.{axis_fields}
-use Rattle.tables.proofs.ViewSteps.{field_among, rest_field}
 
 -- one field more is written
 more : {R : Type 0} (values : R → Values) (new : Sets) (xs : List ℕ) (f : ℕ) (before after after' : List R) (changed lost : Bool) (row : R) → (In f xs → ⊥) → f < length before
@@ -54,39 +50,3 @@ module _ (axes : List Axis) (i : ℕ) (within : i < length axes) where
     axis_written after' lost row reads is loss =
         subst (λ xs. Written values new xs (length xs) before after' (changed || lost)) (sym (map_more (λ ax. ax.field) axes i no_axis within))
         (more values new (axis_fields (take i axes)) (get_or axes i no_axis).field before after after' changed lost row (field_fresh own.distinct) (own.below _ field_in) w reads is loss)
-
--- the fields of two lists of cells
-fields_append : (cs ds : List Cell) → cell_fields (cs ++ ds) ≡ cell_fields cs ++ cell_fields ds
-fields_append [] ds = refl
-fields_append (Constant k ∷ cs) ds = fields_append cs ds
-fields_append (Field f ∷ cs) ds = ap (λ fs. f ∷ fs) (fields_append cs ds)
-
-module _ (cells : List Cell) (i : ℕ) (within : i < length cells) where
-  -- one cell more
-  fields_more : (c : Cell) → get_or cells i (Constant 0) ≡ c → cell_fields (take (i + 1) cells) ≡ cell_fields (take i cells) ++ cell_fields (c ∷ [])
-  fields_more c e = ap cell_fields (take_more cells i (Constant 0) within) ∙ fields_append (take i cells) (get_or cells i (Constant 0) ∷ []) ∙ ap (λ d. cell_fields (take i cells) ++ cell_fields (d ∷ [])) e
-
-  fields_fresh : (f : ℕ) → get_or cells i (Constant 0) ≡ Field f → Distinct (cell_fields cells) → In f (cell_fields (take i cells)) → ⊥
-  fields_fresh f e apart h =
-      halves_apart (cell_fields (take i cells)) (cell_fields (drop i cells))
-      (subst Distinct (sym (ap cell_fields (take-append-drop i cells)) ∙ fields_append (take i cells) (drop i cells)) apart) f h
-      (subst (In f) (sym (rest_field cells i f within e)) (inl refl))
-
-  module _ {R : Type 0} (values : R → Values) (new : Sets) (before after : List R) (changed : Bool) (own : OwnRows (cell_fields cells) (length before))
-      (w : Written values new (cell_fields (take i cells)) (length (cell_fields (take i cells))) before after changed) where
-    -- the row of a field cell gets its new set
-    pub cell_written : (f : ℕ) → get_or cells i (Constant 0) ≡ Field f → (after' : List R) (lost : Bool) (row : R) → ((v : ℕ) → values row v ≡ new f v)
-        → after' ≡ set after f row → Decides lost (Loses values after f (values row))
-        → Written values new (cell_fields (take (i + 1) cells)) (length (cell_fields (take (i + 1) cells))) before after' (changed || lost)
-    cell_written f e after' lost row reads is loss =
-        subst (λ xs. Written values new xs (length xs) before after' (changed || lost)) (sym (fields_more (Field f) e))
-        (more values new (cell_fields (take i cells)) f before after after' changed lost row (fields_fresh f e own.distinct) (own.below f (field_among cells i f (Constant 0) within e)) w reads is loss)
-
-    -- a cell without a field has no row
-    pub constant_passed : (k : ℕ) → get_or cells i (Constant 0) ≡ Constant k
-        → Written values new (cell_fields (take (i + 1) cells)) (length (cell_fields (take (i + 1) cells))) before after changed
-    constant_passed k e = subst (λ xs. Written values new xs (length xs) before after changed) (sym (fields_more (Constant k) e ∙ nil (cell_fields (take i cells)))) w
-      where
-        nil : (xs : List ℕ) → xs ++ [] ≡ xs
-        nil [] = refl
-        nil (x ∷ xs) = ap (λ ys. x ∷ ys) (nil xs)

@@ -1,23 +1,14 @@
 -- What narrowing by a table leaves of each row.
 -- Assumes nothing.
-use Rattle.std.specs.Prelude.{◌≡◌, ℕ, suc, ◌<◌, false, cond, not, ◌&&◌, List, [], ◌∷◌, ◌++◌, map, Option, MatchOption, ◌==◌}
+use Rattle.std.specs.Prelude.{◌≡◌, ℕ, suc, false, cond, not, ◌&&◌, List, [], ◌∷◌, ◌++◌, map, Option, MatchOption, ◌==◌}
 use Rattle.rows.specs.Values.{Values}
-use Rattle.rules.specs.Rules.{Sets, In, Distinct}
+use Rattle.rules.specs.Rules.{Sets}
 use Rattle.tables.specs.declared.found.Hits.{Hits}
 use Rattle.tables.specs.declared.found.Hits.TheVariants.{Nothing, Only, Several}
 use Rattle.tables.specs.declared.found.Marks.{Marks}
 use Rattle.tables.specs.Scans.{Rests, unmarked}
 use Rattle.tables.specs.declared.record.Axis.{Axis}
 use Rattle.tables.specs.declared.record.Cell.TheVariants.{Constant, Field}
-
--- each field has a row, and none stands twice
-pub record OwnRows (fields : List ℕ) (rows : ℕ) : Type 0 where
-  pub below : (f : ℕ) → In f fields → f < rows
-  pub distinct : Distinct fields
-
--- no value for any field
-abbrev pub none_left : Sets
-none_left f v = false
 
 -- an axis, the first at place j, keeps the indices that are marked; a field that is no axis has what is told of it
 abbrev pub axes_left : Marks → Sets → Sets → List Axis → ℕ → Sets

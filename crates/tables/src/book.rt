@@ -3,8 +3,6 @@ ghost use Rattle.rules.specs.Books.{Narrows, rule_at, sets};
 ghost use Rattle.tables.specs.Closure.{Closes};
 ghost use Rattle.tables.specs.Reads.{table_rules};
 
-use crate::narrowing::narrow_table;
-use crate::reading::is_lawful;
 use crate::record::Tables;
 use rows::Row;
 use rules::Book;
@@ -14,15 +12,27 @@ impl<'a, R: Row> Book<R> for Tables<'a> {
     ghost rules = { table_rules };
 
     fn rule_count(&self) -> usize {
-        self.count()
+        self.heads.len().min(1025)
     }
 
     fn scope_size(&self, k: usize) -> u8 {
-        self.size(k)
+        if k > 1023 || k >= self.heads.len() {
+            return 255;
+        }
+        match self.table(k) {
+            Some(table) => table.scope().count().min(255) as u8,
+            None => 0,
+        }
     }
 
     fn scope_field(&self, k: usize, place: usize) -> u8 {
-        self.field(k, place)
+        if k > 1023 {
+            return 255;
+        }
+        match self.table(k) {
+            Some(table) => table.scope().nth(place).unwrap_or(255),
+            None => 255,
+        }
     }
 
     // Besides what every book promises: where an allowed line exists, the rows that are left are
@@ -31,16 +41,10 @@ impl<'a, R: Row> Book<R> for Tables<'a> {
         ensures narrows { Narrows R.Row.values (rule_at (table_rules self.now) k) k n rows.old rows.new result }
         ensures closed { Closes (rule_at (table_rules self.now) k) (sets R.Row.values rows.old) (sets R.Row.values rows.new) result }
     {
-        let Some(table) = self.table(k) else {
-            return Err(NarrowFault::Unfit);
-        };
-        let all = table.axes;
-        let count = table.axis_count;
-        let axes = &all[0..count];
-        let cells = table.cells;
-        if k > 1023 || n > rows.len() || !is_lawful(table.x, axes, cells, n) {
+        let table = self.table(k).ok_or(NarrowFault::Unfit)?;
+        if k > 1023 || n > rows.len() || !table.is_lawful(n) {
             return Err(NarrowFault::Unfit);
         }
-        Ok(narrow_table(table.x, axes, cells, rows))
+        Ok(table.narrow(rows))
     }
 }

@@ -1,69 +1,42 @@
-// One table of a book, with its cells.
-ghost use Rattle.std.specs.Prelude.{◌≡◌, ◌≤◌, length, slice_index_or};
-ghost use Rattle.tables.specs.Reads.{cell_fields, table_scope};
-ghost use Rattle.tables.specs.Views.{table_axes};
+// One table of a book.
+ghost use Rattle.std.specs.Prelude.{◌≡◌, ◌≤◌, true, length};
+ghost use Rattle.tables.specs.Reads.{room, positive};
 
 use crate::record::{Axis, Cell};
+use crate::scope::Scope;
+use rules::marks::Seen;
 
+// A table that makes sense: 1 to 4 axes, each with an index, and a cell for each choice of indices,
+// at most 1,024.
 #[derive(Clone, Copy)]
 pub(crate) struct Table<'a> {
     pub x: u8,
-    pub axes: [Axis; 4],
-    pub axis_count: usize,
+    pub axes: &'a [Axis],
     pub cells: &'a [Cell],
-}
-
-// How many of the cells hold a field.
-fn field_count(cells: &[Cell]) -> usize
-    ensures { result ≡ length (cell_fields cells.now) }
-{
-    let mut count = 0usize;
-    for cell in cells {
-        if let Cell::Field(_) = cell {
-            count += 1;
-        }
-    }
-    count
-}
-
-// The field of the place-th cell that holds one; 255 past the end.
-fn cell_field(cells: &[Cell], place: usize) -> u8
-    ensures { result ≡ slice_index_or (cell_fields cells.now) place 255 }
-{
-    let mut left = place;
-    for cell in cells {
-        if let Cell::Field(f) = cell {
-            if left == 0 {
-                return *f;
-            }
-            left -= 1;
-        }
-    }
-    255
+    ghost some: { 1 ≤ length axes.now },
+    ghost few: { length axes.now ≤ 4 },
+    ghost extents: { positive axes.now ≡ true },
+    ghost small: { room axes.now ≤ 1024 },
+    ghost long: { length cells.now ≡ room axes.now },
 }
 
 impl<'a> Table<'a> {
-    // How many fields the scope has.
-    pub(crate) fn field_total(&self) -> usize
-        requires few { self.now.axis_count ≤ 4 }
-        requires small { length self.now.cells.now ≤ 1024 }
-        ensures { result ≡ length (table_scope self.now.x (table_axes self.now) self.now.cells.now) }
+    ghost use Rattle.std.specs.Prelude.{Decides};
+    ghost use Rattle.rules.specs.Rules.{LawfulRule};
+    ghost use Rattle.tables.specs.Scopes.{fields_left};
+    ghost use Rattle.tables.specs.Views.{scope_of, rule_of};
+
+    // The fields that the table names.
+    pub(crate) fn scope(&self) -> Scope<'a>
+        ensures { fields_left result ≡ scope_of self.now }
     {
-        1 + self.axis_count + field_count(self.cells)
+        Scope::of(self.x, self.axes, self.cells)
     }
 
-    // The field at a place of the scope; 255 past the end.
-    pub(crate) fn field(&self, place: usize) -> u8
-        requires { self.now.axis_count ≤ 4 }
-        ensures { result ≡ slice_index_or (table_scope self.now.x (table_axes self.now) self.now.cells.now) place 255 }
+    // Whether the table names only fields below n, and none twice.
+    pub(crate) fn is_lawful(&self, n: usize) -> bool
+        ensures { Decides result (LawfulRule n (rule_of self.now)) }
     {
-        if place == 0 {
-            return self.x;
-        }
-        let count = self.axis_count;
-        if place <= count {
-            return self.axes[place - 1].field;
-        }
-        cell_field(self.cells, place - 1 - count)
+        Seen::none().note_all(self.scope(), n)
     }
 }

@@ -2,7 +2,7 @@ use Rattle.std.proofs.Common.{map, length, take}
 use Rattle.rules.specs.Writes.{Written}
 use Rattle.rules.specs.Books.{sets}
 use Rattle.tables.specs.Left.{axes_left}
-use Rattle.tables.proofs.narrowing.cut_axes.Given as goal
+use Rattle.tables.proofs.view.Table.cut_axes.Given as goal
 
 -- the rows of the axes so far are cut
 abbrev pub invariant-loop-j : goal.invariant-loop-j

@@ -6,15 +6,15 @@ use Rattle.rules.specs.Rules.{In}
 use Rattle.rules.proofs.RowSets.{sets_at}
 use Rattle.tables.specs.Reads.{cell_fields}
 use Rattle.tables.proofs.ViewSteps.{field_among, rest_field, rest_constant, rest_none, some_value, each_of}
-use Rattle.tables.proofs.reading.all_filled.Goals as goal
-use Rattle.tables.proofs.reading.all_filled.Goals.{in-Field+else-is_empty, in_default}
+use Rattle.tables.proofs.view.Table.is_filled.Goals as goal
+use Rattle.tables.proofs.view.Table.is_filled.Goals.{in-Field+else-is_empty, in_default}
 
 pub offset_bounds-rows-f : goal.offset_bounds-rows-f
 offset_bounds-rows-f g c =
-    omega (arith, c.requires c.in-Field.f (field_among c.args.cells.now c.loop-cell.cell-index c.in-Field.f _ c.loop-cell-test.true c.in-Field.is))
+    omega (arith, c.requires c.in-Field.f (field_among c.args.self.now.cells.now c.loop-cell.cell-index c.in-Field.f _ c.loop-cell-test.true c.in-Field.is))
 
 pub bounds-rows-f : goal.bounds-rows-f
-bounds-rows-f g c = c.requires c.in-Field.f (field_among c.args.cells.now c.loop-cell.cell-index c.in-Field.f _ c.loop-cell-test.true c.in-Field.is)
+bounds-rows-f g c = c.requires c.in-Field.f (field_among c.args.self.now.cells.now c.loop-cell.cell-index c.in-Field.f _ c.loop-cell-test.true c.in-Field.is)
 
 pub returns-then-is_empty : goal.returns-then-is_empty
 returns-then-is_empty g c =
@@ -22,7 +22,7 @@ returns-then-is_empty g c =
     let f = c.in-Field.f in
     let values = g.R.Row.values in
     let row = c.index-rows-f.result in
-    let here = field_among c.args.cells.now c.loop-cell.cell-index f _ c.loop-cell-test.true c.in-Field.is in (
+    let here = field_among c.args.self.now.cells.now c.loop-cell.cell-index f _ c.loop-cell-test.true c.in-Field.is in (
       λ e. absurd (false≢true e),
       λ all.
           let some = all f here in
@@ -32,7 +32,7 @@ returns-then-is_empty g c =
 
 pub loop-cell-preserved : goal.loop-cell-preserved
 loop-cell-preserved g c rest =
-    let cells = c.args.cells.now in
+    let cells = c.args.self.now.cells.now in
     let rows = c.args.rows.now in
     let i = c.loop-cell.cell-index in
     let values = g.R.Row.values in
@@ -51,6 +51,6 @@ loop-cell-preserved g c rest =
 
 pub returns : goal.returns
 returns g c = (
-  λ _. c.loop-cell.invariant (λ f h. absurd (subst (In f) (rest_none c.args.cells.now c.loop-cell.cell-index c.loop-cell-test.false) h)),
+  λ _. c.loop-cell.invariant (λ f h. absurd (subst (In f) (rest_none c.args.self.now.cells.now c.loop-cell.cell-index c.loop-cell-test.false) h)),
   λ _. refl,
 )
