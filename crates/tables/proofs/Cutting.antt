@@ -5,14 +5,13 @@ use Rattle.std.proofs.lemmas.Bool.{cond-true, eq-eqb}
 use Rattle.rows.specs.Values.{Values}
 use Rattle.rules.specs.Books.{sets, Loses}
 use Rattle.rules.specs.Rules.{In}
-use Rattle.rules.specs.Writes.{Written}
+use Rattle.rules.specs.Writes.{Written, OwnRows}
 use Rattle.rules.proofs.WrittenBack.{one_written, written_append, written_same, still_old, halves_apart, in_first, in_second, first_distinct}
 use Rattle.tables.specs.declared.found.Hits.{Hits}
 use Rattle.tables.specs.declared.found.Hits.TheVariants.{Only}
 use Rattle.tables.specs.declared.record.Axis.{Axis}
 use Rattle.tables.specs.declared.record.Cell.TheVariants.{Field}
-use Rattle.tables.specs.Scans.{Rests}
-use Rattle.rules.specs.Writes.{OwnRows}
+use Rattle.tables.specs.declared.found.Rests.{Rests}
 use Rattle.tables.specs.Left.{axes_left, cell_left, table_left, hit_fields, cut_scope}
 use Rattle.tables.proofs.LeftExact.{axes_agree, left_x, left_other, left_cell}
 use Rattle.tables.proofs.Lines.{axis_fields}

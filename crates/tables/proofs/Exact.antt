@@ -10,7 +10,8 @@ use Rattle.tables.specs.declared.record.Axis.{Axis}
 use Rattle.tables.specs.declared.record.Cell.{Cell}
 use Rattle.tables.specs.declared.record.Cell.TheVariants.{Constant, Field}
 use Rattle.tables.specs.Reads.{room, block, picked, cell_value, equals_cell, below_extents, indices, cell_fields, table_scope, lookup_rule}
-use Rattle.tables.specs.Scans.{Rests, unmarked, cell_has, Reaches, here, there, Hit, Tells, Swept}
+use Rattle.tables.specs.declared.found.Rests.{Rests}
+use Rattle.tables.specs.Scans.{unmarked, cell_has, Reaches, here, there, Hit, Tells, Swept}
 use Rattle.tables.proofs.Picking.{allowed_test, reached, line_reaches, axis_in_scope, cell_in_scope}
 use Rattle.tables.proofs.Lines.{axis_fields, line_of, line_x, line_indices, line_inside, line_passes, line_at_cell, reached_field}
 

@@ -10,13 +10,14 @@ use Rattle.rules.specs.Writes.{Written, OwnRows, none_left}
 use Rattle.rules.proofs.WrittenBack.{all_written, some_written, in_either, in_first, in_second, halves_apart, first_distinct}
 use Rattle.tables.specs.declared.found.Hits.{Hits}
 use Rattle.tables.specs.declared.found.Hits.TheVariants.{Nothing, Only, Several}
-use Rattle.tables.specs.declared.found.Marks.{Marks}
+use Rattle.tables.specs.Scans.{Marks}
 use Rattle.tables.specs.declared.record.Axis.{Axis}
 use Rattle.tables.specs.declared.record.Cell.{Cell}
 use Rattle.tables.specs.declared.record.Cell.TheVariants.{Constant, Field}
 use Rattle.tables.specs.Left.{axes_left, cell_left, table_left, hit_fields, cut_scope}
 use Rattle.tables.specs.Reads.{room, cell_fields, table_scope, lookup_rule}
-use Rattle.tables.specs.Scans.{Rests, unmarked, Reaches, Hit, Tells, Swept}
+use Rattle.tables.specs.declared.found.Rests.{Rests}
+use Rattle.tables.specs.Scans.{unmarked, Reaches, Hit, Tells, Swept}
 use Rattle.tables.proofs.Exact.{axis_at, cell_new, no_hits, cell_exact, cell_exact_back, x_exact, x_exact_back, axis_exact, axis_exact_back}
 use Rattle.tables.proofs.Lines.{axis_fields, reached_field}
 use Rattle.tables.proofs.Picking.{cell_in_scope}

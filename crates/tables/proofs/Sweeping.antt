@@ -8,7 +8,8 @@ use Rattle.tables.specs.declared.found.Hits.TheVariants.{Nothing, Only, Several}
 use Rattle.tables.specs.declared.record.Axis.{Axis}
 use Rattle.tables.specs.declared.record.Cell.{Cell}
 use Rattle.tables.specs.Reads.{room, block}
-use Rattle.tables.specs.Scans.{Rests, unmarked, cell_has, Reaches, here, there, Selection, Hit, Tells, Swept, both_hits, some_hit, NotedHits}
+use Rattle.tables.specs.declared.found.Rests.{Rests}
+use Rattle.tables.specs.Scans.{unmarked, cell_has, Reaches, here, there, Selection, Hit, Tells, Swept, both_hits, some_hit, NotedHits}
 
 -- of a selection, the indices that begin below d
 abbrev pub Under : ℕ → Selection → Selection
@@ -92,6 +93,14 @@ module _ {R : Type 0} (values : R → Values) (S : Sets) (X : Values) where
     told = λ ds c h. none ds c h.0;
   }
 
+  -- no block yet
+  pub no_block : (level n : ℕ) (P : Selection) (rests : Rests R) → Swept values S X level n (Under 0 P) rests rests Nothing
+  no_block level n P rests = swept_none level n (Under 0 P) rests none
+    where
+      none : (ds : List ℕ) (c : Cell) → Under 0 P ds c → ⊥
+      none [] c u = u
+      none (e ∷ ds) c u = omega (arith, u.0)
+
   -- one cell
   module _ (level : ℕ) (cell : Cell) (before after : Rests R) (same : after.axes ≡ before.axes)
       (less : (v : ℕ) → values after.x v ≡ (values before.x v && not (cell_has S cell v))) where
@@ -123,14 +132,6 @@ module _ {R : Type 0} (values : R → Values) (S : Sets) (X : Values) where
 
   -- the blocks of the first axis, one after another
   module _ (level : ℕ) (ax : Axis) (axes : List Axis) (n : ℕ) (cells : List Cell) (before : Rests R) where
-    -- no block yet
-    pub no_block : Swept values S X level (suc n) (Under 0 (Reaches S (ax ∷ axes) cells)) before before Nothing
-    no_block = swept_none level (suc n) (Under 0 (Reaches S (ax ∷ axes) cells)) before none
-      where
-        none : (ds : List ℕ) (c : Cell) → Under 0 (Reaches S (ax ∷ axes) cells) ds c → ⊥
-        none [] c u = u
-        none (e ∷ ds) c u = omega (arith, u.0)
-
     open_index : {e : ℕ} {ds : List ℕ} {c : Cell} → Reaches S (ax ∷ axes) cells (e ∷ ds) c → (S ax.field e ≡ true) × (e < ax.extent)
     open_index (there l s r) = (s, l)
 

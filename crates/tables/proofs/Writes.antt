@@ -1,14 +1,15 @@
 -- The rows of a table, written one by one. Assumes nothing.
-use Rattle.std.proofs.Common.{◌≡◌, ℕ, ◌+◌, ◌<◌, Bool, ◌||◌, List, [], ◌∷◌, ◌++◌, length, get_or, take, set, Decides, sym, subst, inl, inr, arith}
-use Rattle.std.proofs.lemmas.List.{length-map, get_or-map, take-map, map_more}
+use Rattle.std.proofs.Common.{◌≡◌, ℕ, ◌+◌, ◌<◌, Bool, false, not, ◌&&◌, ◌||◌, ltb, List, [], ◌∷◌, ◌++◌, length, get_or, take, drop, set, Decides, sym, ap, ◌∙◌, subst, ap₂, inl, inr, arith, length-drop}
+use Rattle.std.proofs.lemmas.List.{length-map, get_or-map, take-map, map_more, drop_more}
+use Rattle.std.proofs.Math.Bool.{not-not}
 use Rattle.rows.specs.Values.{Values}
 use Rattle.rules.specs.Books.{sets, Loses}
 use Rattle.rules.specs.Rules.{Sets, In, Distinct}
 use Rattle.rules.proofs.Fields.{front_apart}
-use Rattle.rules.specs.Writes.{Written}
+use Rattle.rules.specs.Writes.{Written, OwnRows}
 use Rattle.rules.proofs.WrittenBack.{one_written, written_append, still_old}
 use Rattle.tables.specs.declared.record.Axis.{Axis}
-use Rattle.rules.specs.Writes.{OwnRows}
+use Rattle.tables.specs.Scans.{Marks, unmarked}
 use Rattle.tables.proofs.Blocks.{no_axis}
 use Rattle.tables.proofs.Exact.{axis_at}
 use Rattle.tables.proofs.Lines.{axis_fields}
@@ -50,3 +51,15 @@ module _ (axes : List Axis) (i : ℕ) (within : i < length axes) where
     axis_written after' lost row reads is loss =
         subst (λ xs. Written values new xs (length xs) before after' (changed || lost)) (sym (map_more (λ ax. ax.field) axes i no_axis within))
         (more values new (axis_fields (take i axes)) (get_or axes i no_axis).field before after after' changed lost row (field_fresh own.distinct) (own.below _ field_in) w reads is loss)
+
+-- what comes next of a list that is taken from the front
+pub taken_at : {X : Type 0} (xs rest : List X) (i : ℕ) (x d : X) → x ∷ rest ≡ drop i xs → (i < length xs) × (get_or xs i d ≡ x) × (rest ≡ drop (i + 1) xs)
+taken_at xs rest i x d is =
+    let within : i < length xs = omega (arith, ap length is, length-drop i xs) in
+    let both : x ∷ rest ≡ get_or xs i d ∷ drop (i + 1) xs = is ∙ drop_more xs i d within in
+    (within, cc, cc)
+
+-- the values that are kept at a level are those that are not unmarked there
+pub kept_marks : (marks : Marks) (i : ℕ) (indices : List Bool) → get_or marks i [] ≡ indices → (a b : Bool) → a ≡ b → (v : ℕ) → (a && (ltb v 256 && get_or indices v false)) ≡ (b && not (unmarked marks i v))
+kept_marks marks i indices is a b same v =
+    ap₂ ◌&&◌ same (ap (λ row. ltb v 256 && get_or row v false) (sym is) ∙ sym (not-not (ltb v 256 && get_or (get_or marks i []) v false)))

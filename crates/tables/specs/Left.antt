@@ -5,8 +5,8 @@ use Rattle.rows.specs.Values.{Values}
 use Rattle.rules.specs.Rules.{Sets}
 use Rattle.tables.specs.declared.found.Hits.{Hits}
 use Rattle.tables.specs.declared.found.Hits.TheVariants.{Nothing, Only, Several}
-use Rattle.tables.specs.declared.found.Marks.{Marks}
-use Rattle.tables.specs.Scans.{Rests, unmarked}
+use Rattle.tables.specs.declared.found.Rests.{Rests}
+use Rattle.tables.specs.Scans.{Marks, unmarked}
 use Rattle.tables.specs.declared.record.Axis.{Axis}
 use Rattle.tables.specs.declared.record.Cell.TheVariants.{Constant, Field}
 

@@ -1,27 +1,23 @@
 -- What a pass over the cells of a table finds.
 -- Assumes nothing.
-use Rattle.std.specs.Prelude.{◌≡◌, ℕ, ◌+◌, ◌*◌, ◌<◌, ◌≤◌, Bool, true, false, not, ◌&&◌, ◌⊎◌, List, [], ◌∷◌, map, length, ◌==◌, ◌≢◌, nat_lt, slice_index, slice_index_or}
+use Rattle.std.specs.Prelude.{◌≡◌, ℕ, ◌+◌, ◌<◌, ◌≤◌, Bool, true, false, not, ◌&&◌, ◌⊎◌, List, [], ◌∷◌, map, length, ◌==◌, ◌≢◌, nat_lt, slice_index, slice_index_or}
 use Rattle.rows.specs.Values.{Values, Meet}
 use Rattle.rules.specs.Rules.{Sets, In}
 use Rattle.tables.specs.declared.found.Hits.{Hits}
 use Rattle.tables.specs.declared.found.Hits.TheVariants.{Nothing, Only, Several}
-use Rattle.tables.specs.declared.found.Marks.{Marks}
+use Rattle.tables.specs.declared.found.Rests.{Rests}
 use Rattle.tables.specs.declared.record.Axis.{Axis}
 use Rattle.tables.specs.declared.record.Cell.{Cell}
 use Rattle.tables.specs.declared.record.Cell.TheVariants.{Constant, Field}
 use Rattle.tables.specs.Reads.{room, block, positive, cell_fields}
 
+-- for each axis a row of marks, one for each index
+abbrev pub Marks : Type 0
+Marks = List (List Bool)
+
 -- index w of the axis at a level is not marked
 abbrev pub unmarked : Marks → ℕ → ℕ → Bool
-unmarked marks l w = not (nat_lt w 256 && slice_index_or marks.at (l * 256 + w) false)
-
--- what is without support so far: of x a row of values, of the axes the indices that are not marked
-pub record Rests (R : Type 0) : Type 0 where
-  pub x : R
-  pub axes : Marks
-
-abbrev pub rests_of : {R : Type 0} → R → Marks → Rests R
-rests_of x marks = record { x = x; axes = marks }
+unmarked marks l w = not (nat_lt w 256 && slice_index_or (slice_index_or marks l []) w false)
 
 -- value v is one that the cell can have
 abbrev pub cell_has : Sets → Cell → Values

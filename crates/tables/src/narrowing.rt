@@ -1,28 +1,27 @@
 // Narrowing the rows of one table.
-ghost use Rattle.std.specs.Prelude.{◌≡◌, ℕ, ◌<◌, ◌≤◌, true, not, ◌&&◌, map, length, Decides};
+ghost use Rattle.std.specs.Prelude.{◌≡◌, ℕ, ◌<◌, ◌≤◌, true, false, not, ◌&&◌, map, length, Decides, nat_lt, slice_index_or};
 ghost use Rattle.rules.specs.Writes.{Written, OwnRows};
 ghost use Rattle.rules.specs.Books.{Narrowing, sets};
 ghost use Rattle.rules.specs.Rules.{In};
 ghost use Rattle.tables.specs.Left.{IsOnly, axes_left, cut_scope, table_left};
 ghost use Rattle.tables.specs.Reads.{cell_fields};
-ghost use Rattle.tables.specs.Scans.{rests_of, unmarked};
+ghost use Rattle.tables.specs.Scans.{unmarked};
 ghost use Rattle.tables.specs.Views.{rule_of, scope_of};
 
-use crate::found::{Hits, Marks};
+use crate::found::{Hits, Marks, Rests};
 use crate::record::Cell;
-use crate::scan::scan;
+use crate::scan::Pass;
 use crate::view::Table;
 use rows::Row;
 use rules::writing::{clear, replace};
 
-// The values of a row that are marked at a level.
-fn marked<R: Row>(row: R, marks: &Marks, level: usize) -> R
-    requires { level < 4 }
-    ensures { (v : ℕ) → R.Row.values result v ≡ (R.Row.values row v && not (unmarked marks.now level v)) }
+// The values of a row that are marked.
+fn marked<R: Row>(row: R, marks: &[bool; 256]) -> R
+    ensures { (v : ℕ) → R.Row.values result v ≡ (R.Row.values row v && (nat_lt v 256 && slice_index_or marks.now v false)) }
 {
     let mut left = row;
     for v in 0..R::SPAN {
-        if !marks.at[level * 256 + v] {
+        if !marks[v] {
             left = left.without(v as u8);
         }
     }
@@ -60,25 +59,24 @@ impl<'a> Table<'a> {
         requires { OwnRows (map (λ ax. ax.field) self.now.axes.now) (length rows.old) }
         ensures { Written R.Row.values (axes_left marks.now (sets R.Row.values rows.old) (sets R.Row.values rows.old) self.now.axes.now 0) (map (λ ax. ax.field) self.now.axes.now) (length (map (λ ax. ax.field) self.now.axes.now)) rows.old rows.new result }
     {
-        let axes = self.axes;
         let mut changed = false;
-        for j in 0..axes.len() {
-            let field = axes[j].field as usize;
-            let left = marked(rows[field], marks, j);
+        for (axis, indices) in self.axes.iter().zip(marks.iter()) {
+            let field = axis.field as usize;
+            let left = marked(rows[field], indices);
             changed |= replace(rows, field, left);
         }
         changed
     }
 
     // Narrows the rows of a table in which every field cell has a value, and that has a hit.
-    fn keep_supported<R: Row>(&self, rest: R, marks: &Marks, hits: Hits, rows: &mut [R]) -> bool
+    fn keep_supported<R: Row>(&self, rests: &Rests<R>, hits: Hits, rows: &mut [R]) -> bool
         requires { OwnRows (cut_scope self.now.x self.now.axes.now hits) (length rows.old) }
-        ensures { Written R.Row.values (table_left R.Row.values (rests_of rest marks.now) hits (sets R.Row.values rows.old) self.now.x self.now.axes.now) (cut_scope self.now.x self.now.axes.now hits) (length (cut_scope self.now.x self.now.axes.now hits)) rows.old rows.new result }
+        ensures { Written R.Row.values (table_left R.Row.values rests.now hits (sets R.Row.values rows.old) self.now.x self.now.axes.now) (cut_scope self.now.x self.now.axes.now hits) (length (cut_scope self.now.x self.now.axes.now hits)) rows.old rows.new result }
     {
         let x = self.x as usize;
         let row = rows[x];
-        let mut changed = replace(rows, x, row.minus(rest));
-        changed |= self.cut_axes(marks, rows);
+        let mut changed = replace(rows, x, row.minus(rests.x));
+        changed |= self.cut_axes(&rests.axes, rows);
         if let Some(f) = only_field(hits) {
             let left = rows[f as usize].common(row);
             changed |= replace(rows, f as usize, left);
@@ -92,13 +90,15 @@ impl<'a> Table<'a> {
         ensures { Narrowing R.Row.values (rule_of self.now) rows.old rows.new result }
     {
         let row = rows[self.x as usize];
-        let mut rest = row;
-        let mut marks = Marks { at: [false; 1024] };
-        let hits = scan(self.axes, 0, self.cells, row, rows, &mut rest, &mut marks);
+        let mut rests = Rests {
+            x: row,
+            axes: [[false; 256]; 4],
+        };
+        let hits = Pass { x: row, rows }.scan(self.axes, 0, self.cells, &mut rests);
         let filled = self.is_filled(rows);
         match hits {
             Hits::Nothing => clear(rows, self.scope()),
-            _ if filled => self.keep_supported(rest, &marks, hits, rows),
+            _ if filled => self.keep_supported(&rests, hits, rows),
             _ => clear(rows, self.scope()),
         }
     }

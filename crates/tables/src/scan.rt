@@ -4,9 +4,9 @@ ghost use Rattle.rules.specs.Books.{sets};
 ghost use Rattle.rules.specs.Rules.{In};
 ghost use Rattle.tables.specs.declared.found.Hits.TheVariants.{Nothing, Only};
 ghost use Rattle.tables.specs.Reads.{cell_fields};
-ghost use Rattle.tables.specs.Scans.{Reaches, Swept, both_hits, some_hit, NotedHits, Scannable, rests_of};
+ghost use Rattle.tables.specs.Scans.{Reaches, Swept, both_hits, NotedHits, Scannable};
 
-use crate::found::{Hits, Marks};
+use crate::found::{Hits, Marks, Rests};
 use crate::record::{Axis, Cell};
 use rows::Row;
 
@@ -26,11 +26,9 @@ fn note(marks: &mut Marks, level: usize, d: u8, hits: Hits)
     requires { level < 4 }
     ensures { NotedHits level d hits marks.old marks.new }
 {
-    match hits {
-        Hits::Nothing => {}
-        _ => {
-            marks.at[level * 256 + d as usize] = true;
-        }
+    if hits != Hits::Nothing {
+        let row = &mut marks[level];
+        row[d as usize] = true;
     }
 }
 
@@ -45,61 +43,57 @@ fn hit_if(meets: bool, cell: Cell) -> Hits
     }
 }
 
-// One cell: its values are supported in x, and it is a hit if it meets x.
-fn visit<R: Row>(cell: Cell, x: R, rows: &[R], rest: &mut R) -> Hits
-    requires { (f : ℕ) → In f (cell_fields (cell ∷ [])) → f < length rows.now }
-    ensures { (level : ℕ) (marks : Marks) → Swept R.Row.values (sets R.Row.values rows.now) (R.Row.values x) level 0 (Reaches (sets R.Row.values rows.now) [] (cell ∷ [])) (rests_of rest.old marks) (rests_of rest.new marks) result }
-{
-    match cell {
-        Cell::Constant(k) => {
-            *rest = rest.without(k);
-            hit_if(x.has(k), cell)
-        }
-        Cell::Field(f) => {
-            let row = rows[f as usize];
-            *rest = rest.minus(row);
-            hit_if(x.meets(row), cell)
-        }
-    }
+// What a pass goes by: the row of x, and the rows of all fields.
+#[derive(Clone, Copy)]
+pub(crate) struct Pass<'a, R> {
+    pub x: R,
+    pub rows: &'a [R],
 }
 
-// The cells of some axes, of which the first is at a level: block after block of that axis, as far
-// as its index is open.
-pub(crate) fn scan<R: Row>(
-    axes: &[Axis],
-    level: usize,
-    cells: &[Cell],
-    x: R,
-    rows: &[R],
-    rest: &mut R,
-    marks: &mut Marks,
-) -> Hits
-    requires { Scannable level axes.now cells.now (length rows.now) }
-    ensures { Swept R.Row.values (sets R.Row.values rows.now) (R.Row.values x) level (length axes.now) (Reaches (sets R.Row.values rows.now) axes.now cells.now) (rests_of rest.old marks.old) (rests_of rest.new marks.new) result }
-{
-    if axes.len() == 0 {
-        return visit(cells[0], x, rows, rest);
-    }
-    let axis = axes[0];
-    let open = rows[axis.field as usize];
-    let size = cells.len() / axis.extent as usize;
-    let mut hits = Hits::Nothing;
-    for d in 0..axis.extent {
-        if open.has(d) {
-            let start = d as usize * size;
-            let end = start + size;
-            let more = scan(
-                &axes[1..],
-                level + 1,
-                &cells[start..end],
-                x,
-                rows,
-                rest,
-                marks,
-            );
-            note(marks, level, d, more);
-            hits = both(hits, more);
+impl<'a, R: Row> Pass<'a, R> {
+    // One cell: its values are supported in x, and it is a hit if it meets x.
+    fn visit(&self, cell: Cell, rests: &mut Rests<R>) -> Hits
+        requires { (f : ℕ) → In f (cell_fields (cell ∷ [])) → f < length self.now.rows.now }
+        ensures { (level : ℕ) → Swept R.Row.values (sets R.Row.values self.now.rows.now) (R.Row.values self.now.x) level 0 (Reaches (sets R.Row.values self.now.rows.now) [] (cell ∷ [])) rests.old rests.new result }
+    {
+        match cell {
+            Cell::Constant(k) => {
+                rests.x = rests.x.without(k);
+                hit_if(self.x.has(k), cell)
+            }
+            Cell::Field(f) => {
+                let row = self.rows[f as usize];
+                rests.x = rests.x.minus(row);
+                hit_if(self.x.meets(row), cell)
+            }
         }
     }
-    hits
+
+    // The cells of some axes, of which the first is at a level: block after block of that axis, as
+    // far as its index is open.
+    pub(crate) fn scan(
+        &self,
+        axes: &[Axis],
+        level: usize,
+        cells: &[Cell],
+        rests: &mut Rests<R>,
+    ) -> Hits
+        requires { Scannable level axes.now cells.now (length self.now.rows.now) }
+        ensures { Swept R.Row.values (sets R.Row.values self.now.rows.now) (R.Row.values self.now.x) level (length axes.now) (Reaches (sets R.Row.values self.now.rows.now) axes.now cells.now) rests.old rests.new result }
+    {
+        let Some((axis, inner)) = axes.split_first() else {
+            return self.visit(cells[0], rests);
+        };
+        let open = self.rows[axis.field as usize];
+        let size = cells.len() / axis.extent as usize;
+        let mut hits = Hits::Nothing;
+        for (d, block) in (0..axis.extent).zip(cells.chunks_exact(size)) {
+            if open.has(d) {
+                let more = self.scan(inner, level + 1, block, rests);
+                note(&mut rests.axes, level, d, more);
+                hits = both(hits, more);
+            }
+        }
+        hits
+    }
 }

@@ -1,10 +1,9 @@
 use Rattle.std.proofs.Common.{◌<◌, length, sym, refl, inl, rules}
 use Rattle.std.proofs.lemmas.Bool.Decides.{not_from_Decides}
 use Rattle.rules.proofs.RowSets.{sets_at}
-use Rattle.tables.specs.Scans.{rests_of}
 use Rattle.tables.specs.Views.{scope_of}
 use Rattle.tables.proofs.Fitting.{scannable}
-use Rattle.tables.proofs.Levels.{no_marks, none_marked}
+use Rattle.tables.proofs.Levels.{all_rest, none_marked}
 use Rattle.tables.proofs.LeftExact.{cut_own, dead_narrows, unfilled, hitless, live_narrows}
 use Rattle.tables.proofs.Scoping.{gives}
 use Rattle.tables.proofs.view.Table.narrow.Goals as goal
@@ -29,7 +28,7 @@ keep_supported-requires g c =
     let t = c.args.self.now in
     let rows = c.args.rows.now in
     let row = c.index-rows-self.result in
-    cut_own values t.x t.axes.now t.cells.now rows t.long c.requires row (rests_of row no_marks) (rests_of c.scan-hits.new.rest c.scan-hits.new.marks) c.scan-hits.result
+    cut_own values t.x t.axes.now t.cells.now rows t.long c.requires row (all_rest row) c.scan-hits.new.rests c.scan-hits.result
     (sets_at values rows t.x row (c.requires.below t.x (inl refl)) c.index-rows-self.is) c.scan-hits.ensures
 
 pub returns-in-Nothing : goal.returns-in-Nothing
@@ -39,7 +38,7 @@ returns-in-Nothing g c =
     let rows = c.args.rows.now in
     let row = c.index-rows-self.result in
     dead_narrows values t.x t.axes.now t.cells.now rows t.long c.requires c.clear.new.rows c.clear.result
-    (hitless values t.x t.axes.now t.cells.now rows t.long c.requires row (rests_of row no_marks) (rests_of c.scan-hits.new.rest c.scan-hits.new.marks) c.scan-hits.result
+    (hitless values t.x t.axes.now t.cells.now rows t.long c.requires row (all_rest row) c.scan-hits.new.rests c.scan-hits.result
     (sets_at values rows t.x row (c.requires.below t.x (inl refl)) c.index-rows-self.is) c.scan-hits.ensures c.in-Nothing.is)
     (c.clear.ensures (scope_of t) (gives c.scope.result (scope_of t) c.scope.ensures).runs)
 
@@ -50,7 +49,7 @@ returns-in_default g c =
     let rows = c.args.rows.now in
     let row = c.index-rows-self.result in
     let reads = sets_at values rows t.x row (c.requires.below t.x (inl refl)) c.index-rows-self.is in
-    live_narrows values t.x t.axes.now t.cells.now rows t.long c.requires row (rests_of row no_marks) (rests_of c.scan-hits.new.rest c.scan-hits.new.marks) c.scan-hits.result
+    live_narrows values t.x t.axes.now t.cells.now rows t.long c.requires row (all_rest row) c.scan-hits.new.rests c.scan-hits.result
     reads c.scan-hits.ensures c.keep_supported.new.rows c.keep_supported.result c.in_default.not-Nothing (c.is_filled-filled.ensures.0 c.if-filled.true)
     (λ v. sym (reads v)) none_marked c.keep_supported.ensures
 
