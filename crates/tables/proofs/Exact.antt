@@ -1,9 +1,10 @@
 -- A pass over all cells narrows x, the axes and the field cells to exactly their supported values. Assumes nothing.
-use Rattle.std.proofs.Common.{◌≡◌, ℕ, zero, suc, ◌+◌, ◌-◌, ◌*◌, ◌<◌, ◌≤◌, true, false, cond, not, ◌&&◌, eqb, ◌⊎◌, List, [], ◌∷◌, ◌++◌, length, get_or, take, drop, sym, refl, ap, ◌∙◌, subst, ap₂, inl, inr, ⊎_elim, mul-le-mul_right, suc-mul, zero-add, arith, drop-drop}
+use Rattle.std.proofs.Common.{◌≡◌, ℕ, zero, suc, ◌+◌, ◌-◌, ◌*◌, ◌<◌, ◌≤◌, true, false, cond, not, ◌&&◌, eqb, ◌⊎◌, List, [], ◌∷◌, length, get_or, take, drop, sym, refl, ap, ◌∙◌, subst, ap₂, inl, inr, ⊎_elim, mul-le-mul_right, suc-mul, zero-add, arith, drop-drop}
 use Rattle.std.proofs.lemmas.Bool.{cases_order, cases_eq, cond-true, cond-false, eq-eqb, eqb-true, ne_eqb, and_parts, and_from, both_ways, not-true, not_from_false, false≢true}
 use Rattle.rows.specs.Values.{Values}
 use Rattle.rules.specs.Rules.{Sets, In, Distinct, Allowed, Supported}
 use Rattle.rules.proofs.Lists.{find}
+use Rattle.rules.proofs.WrittenBack.{second_distinct}
 use Rattle.tables.specs.declared.found.Hits.{Hits}
 use Rattle.tables.specs.declared.found.Hits.TheVariants.{Nothing, Only, Several}
 use Rattle.tables.specs.declared.record.Axis.{Axis}
@@ -12,27 +13,10 @@ use Rattle.tables.specs.declared.record.Cell.TheVariants.{Constant, Field}
 use Rattle.tables.specs.Reads.{room, block, picked, cell_value, equals_cell, below_extents, indices, cell_fields, table_scope, lookup_rule}
 use Rattle.tables.specs.declared.found.Rests.{Rests}
 use Rattle.tables.specs.Scans.{unmarked, cell_has, Reaches, here, there, Hit, Tells, Swept}
-use Rattle.tables.proofs.Picking.{allowed_test, reached, line_reaches, axis_in_scope, cell_in_scope}
+use Rattle.tables.proofs.Picking.{front_fields, back_fields, allowed_test, reached, line_reaches, axis_in_scope, cell_in_scope}
 use Rattle.tables.proofs.Lines.{axis_fields, line_of, line_x, line_indices, line_inside, line_passes, line_at_cell, reached_field}
 
 -- ---- a field is selected at one place only
-
--- what lies behind a front has only fields of the cells
-back_in : (m : ℕ) (cells : List Cell) (f : ℕ) → In f (cell_fields (drop m cells)) → In f (cell_fields cells)
-back_in zero [] f h = h
-back_in (suc m) [] f h = h
-back_in zero (c ∷ cells) f h = h
-back_in (suc m) (Constant k ∷ cells) f h = back_in m cells f h
-back_in (suc m) (Field g ∷ cells) f h = inr (back_in m cells f h)
-
--- a front has only fields of the cells
-front_in : (m : ℕ) (cells : List Cell) (f : ℕ) → In f (cell_fields (take m cells)) → In f (cell_fields cells)
-front_in zero [] f h = h
-front_in (suc m) [] f h = h
-front_in zero (c ∷ cells) f h = absurd h
-front_in (suc m) (Constant k ∷ cells) f h = front_in m cells f h
-front_in (suc m) (Field g ∷ cells) f (inl e) = inl e
-front_in (suc m) (Field g ∷ cells) f (inr h) = inr (front_in m cells f h)
 
 -- where no field stands twice, none stands twice in what lies behind a front
 back_apart : (m : ℕ) (cells : List Cell) → Distinct (cell_fields cells) → Distinct (cell_fields (drop m cells))
@@ -48,7 +32,7 @@ front_apart zero [] h = h
 front_apart (suc m) [] h = h
 front_apart zero (c ∷ cells) h = tt
 front_apart (suc m) (Constant k ∷ cells) h = front_apart m cells h
-front_apart (suc m) (Field g ∷ cells) h = (λ k. h.0 (front_in m cells g k), front_apart m cells h.1)
+front_apart (suc m) (Field g ∷ cells) h = (λ k. h.0 (front_fields m cells g k), front_apart m cells h.1)
 
 -- a front shares no field with what lies behind it
 front_back : (m n : ℕ) (cells : List Cell) (f : ℕ) → m ≤ n → Distinct (cell_fields cells) → In f (cell_fields (take m cells)) → In f (cell_fields (drop n cells)) → ⊥
@@ -57,7 +41,7 @@ front_back (suc m) n [] f l apart h k = h
 front_back zero n (c ∷ cells) f l apart h k = h
 front_back (suc m) zero (c ∷ cells) f l apart h k = omega arith
 front_back (suc m) (suc n) (Constant j ∷ cells) f l apart h k = front_back m n cells f (omega arith) apart h k
-front_back (suc m) (suc n) (Field g ∷ cells) f l apart (inl e) k = apart.0 (subst (λ u. In u (cell_fields cells)) e (back_in n cells f k))
+front_back (suc m) (suc n) (Field g ∷ cells) f l apart (inl e) k = apart.0 (subst (λ u. In u (cell_fields cells)) e (back_fields n cells f k))
 front_back (suc m) (suc n) (Field g ∷ cells) f l apart (inr h) k = front_back m n cells f (omega arith) apart.1 h k
 
 -- a block shares no field with a later one
@@ -69,7 +53,7 @@ blocks_apart m d e cells f l apart h k =
     let sum : d * m + (e * m - d * m) ≡ e * m = omega arith in
     let behind : drop (e * m - d * m) (drop (d * m) cells) ≡ drop (e * m) cells = drop-drop (e * m - d * m) (d * m) cells ∙ ap (λ n. drop n cells) sum in
     front_back m (e * m - d * m) (drop (d * m) cells) f gap (back_apart (d * m) cells apart) h
-    (subst (λ cs. In f (cell_fields cs)) (sym behind) (front_in m (drop (e * m) cells) f k))
+    (subst (λ cs. In f (cell_fields cs)) (sym behind) (front_fields m (drop (e * m) cells) f k))
 
 -- without axes there are no indices
 no_axes : {S : Sets} {cells : List Cell} {ds : List ℕ} {c : Cell} → Reaches S [] cells ds c → ds ≡ []
@@ -169,11 +153,6 @@ cell_new (Only (Constant k)) S x f v = S f v
 cell_new (Only (Field g)) S x f v = cond (eqb f g) (S f v && S x v) (S f v)
 cell_new Several S x f v = S f v
 
--- where no field stands twice in two lists, none does in the second
-apart_right : (xs ys : List ℕ) → Distinct (xs ++ ys) → Distinct ys
-apart_right [] ys h = h
-apart_right (x ∷ xs) ys h = apart_right xs ys h.1
-
 -- a cell holds the field f, or does not
 holds_field : (c : Cell) (f : ℕ) → (c ≡ Field f) ⊎ (c ≡ Field f → ⊥)
 holds_field (Constant k) f = inr (λ e. let z : ◌≡◌ {A = ℕ} 0 1 = cc in omega arith)
@@ -258,7 +237,7 @@ module _ (S : Sets) (x : ℕ) (axes : List Axis) (cells : List Cell) (apart : Di
   cell_exact Several told f v h s =
       ⊎_elim
       (λ e. ⊎_elim
-      (λ d. absurd (told.6 (one_place axes (subst (Reaches S axes cells told.0) e told.4.0) (subst (Reaches S axes cells told.2) d told.5.0) (apart_right (axis_fields axes) (cell_fields cells) apart.1))))
+      (λ d. absurd (told.6 (one_place axes (subst (Reaches S axes cells told.0) e told.4.0) (subst (Reaches S axes cells told.2) d told.5.0) (second_distinct (axis_fields axes) (cell_fields cells) apart.1))))
       (λ other. free f v h s told.2 told.3 told.5 other)
       (holds_field told.3 f))
       (λ other. free f v h s told.0 told.1 told.4 other)

@@ -1,7 +1,8 @@
 -- A cell that open index values reach, and that has a value of x, makes an allowed line. Assumes nothing.
-use Rattle.std.proofs.Common.{◌≡◌, ℕ, true, cond, eqb, ltb, ◌⊎◌, List, [], ◌∷◌, ◌++◌, map, sym, refl, ap, ◌∙◌, subst, ap₂, inl, inr, ⊎_elim, arith}
+use Rattle.std.proofs.Common.{◌≡◌, ℕ, true, cond, eqb, ltb, List, [], ◌∷◌, ◌++◌, map, sym, refl, ap, ◌∙◌, subst, ap₂, inl, inr, ⊎_elim, arith}
 use Rattle.std.proofs.lemmas.Bool.{cases_eq, cond-true, cond-false, eq-eqb, eqb-true, ne_eqb, lt-ltb, and_from}
 use Rattle.rules.specs.Rules.{Sets, In, Distinct}
+use Rattle.rules.proofs.WrittenBack.{in_either, in_first, in_second, halves_apart, first_distinct}
 use Rattle.tables.specs.declared.record.Axis.{Axis}
 use Rattle.tables.specs.declared.record.Cell.{Cell}
 use Rattle.tables.specs.declared.record.Cell.TheVariants.{Constant, Field}
@@ -78,29 +79,6 @@ pub reached_field : {S : Sets} {axes : List Axis} {cells : List Cell} {ds : List
 reached_field here = inl refl
 reached_field {g = g} (there {axes = axes} {cells = cells} {d = d} l s r) = block_fields (room axes) d cells g (reached_field r)
 
-in_append : (f : ℕ) (xs ys : List ℕ) → In f (xs ++ ys) → In f xs ⊎ In f ys
-in_append f [] ys h = inr h
-in_append f (x ∷ xs) ys (inl e) = inl (inl e)
-in_append f (x ∷ xs) ys (inr h) = elim (in_append f xs ys h) [ inl k ↦ inl (inr k) | inr k ↦ inr k ]
-
-in_left : (f : ℕ) (xs ys : List ℕ) → In f xs → In f (xs ++ ys)
-in_left f [] ys h = absurd h
-in_left f (x ∷ xs) ys (inl e) = inl e
-in_left f (x ∷ xs) ys (inr h) = inr (in_left f xs ys h)
-
-in_right : (f : ℕ) (xs ys : List ℕ) → In f ys → In f (xs ++ ys)
-in_right f [] ys h = h
-in_right f (x ∷ xs) ys h = inr (in_right f xs ys h)
-
-apart_left : (xs ys : List ℕ) → Distinct (xs ++ ys) → Distinct xs
-apart_left [] ys h = tt
-apart_left (x ∷ xs) ys h = (λ k. h.0 (in_left x xs ys k), apart_left xs ys h.1)
-
-apart_across : (f : ℕ) (xs ys : List ℕ) → Distinct (xs ++ ys) → In f xs → In f ys → ⊥
-apart_across f [] ys h k j = k
-apart_across f (x ∷ xs) ys h (inl e) j = h.0 (subst (λ g. In g (xs ++ ys)) e (in_right f xs ys j))
-apart_across f (x ∷ xs) ys h (inr k) j = apart_across f xs ys h.1 k j
-
 -- the line that a reached cell makes with a value v of x, and b for the other field cells
 module _ (S : Sets) (x v : ℕ) (axes : List Axis) (cells : List Cell) (ds : List ℕ) (c : Cell) (b : ℕ → ℕ)
     (apart : Distinct (table_scope x axes cells)) (reach : Reaches S axes cells ds c) (in_x : S x v ≡ true) (in_Cell : cell_has S c v ≡ true)
@@ -112,17 +90,17 @@ module _ (S : Sets) (x v : ℕ) (axes : List Axis) (cells : List Cell) (ds : Lis
   not_x f h e = apart.0 (subst (λ g. In g (axis_fields axes ++ cell_fields cells)) e h)
 
   no_axis : (f : ℕ) → In f (cell_fields cells) → In f (axis_fields axes) → ⊥
-  no_axis f h k = apart_across f (axis_fields axes) (cell_fields cells) apart.1 k h
+  no_axis f h k = halves_apart (axis_fields axes) (cell_fields cells) apart.1 f k h
 
   -- a field cell has v if it is the one selected, and else its own value
   pub line_at_cell : (f : ℕ) → In f (cell_fields cells) → line_of x v axes ds c b f ≡ at_cell c v b f
-  line_at_cell f h = line_cell x v axes ds c b f (not_x f (in_right f (axis_fields axes) (cell_fields cells) h)) (no_axis f h)
+  line_at_cell f h = line_cell x v axes ds c b f (not_x f (in_second (axis_fields axes) (cell_fields cells) f h)) (no_axis f h)
 
   line_at_axis : (f : ℕ) → In f (axis_fields axes) → line_of x v axes ds c b f ≡ at_axes axes ds (at_cell c v b) f
-  line_at_axis f h = cond-false (eqb f x) v (at_axes axes ds (at_cell c v b) f) (ne_eqb f x (not_x f (in_left f (axis_fields axes) (cell_fields cells) h)))
+  line_at_axis f h = cond-false (eqb f x) v (at_axes axes ds (at_cell c v b) f) (ne_eqb f x (not_x f (in_first (axis_fields axes) (cell_fields cells) f h)))
 
   pub line_indices : indices axes (line_of x v axes ds c b) ≡ ds
-  line_indices = axes_at (at_cell c v b) (line_of x v axes ds c b) reach (apart_left (axis_fields axes) (cell_fields cells) apart.1) line_at_axis
+  line_indices = axes_at (at_cell c v b) (line_of x v axes ds c b) reach (first_distinct (axis_fields axes) (cell_fields cells) apart.1) line_at_axis
 
   cell_inside : (c : Cell) (f : ℕ) → cell_has S c v ≡ true → S f (b f) ≡ true → S f (at_cell c v b f) ≡ true
   cell_inside (Constant k) f h s = s
@@ -139,7 +117,7 @@ module _ (S : Sets) (x v : ℕ) (axes : List Axis) (cells : List Cell) (ds : Lis
       ⊎_elim
       (λ k. ap (S f) (line_at_axis f k) ∙ axes_inside (at_cell c v b) f reach k)
       (λ k. ap (S f) (line_at_cell f k) ∙ cell_inside c f in_Cell (sound f k))
-      (in_append f (axis_fields axes) (cell_fields cells) h)
+      (in_either (axis_fields axes) (cell_fields cells) f h)
 
   value_is : (c : Cell) → Reaches S axes cells ds c → cell_has S c v ≡ true → ((f : ℕ) → In f (cell_fields cells) → line_of x v axes ds c b f ≡ at_cell c v b f) → cell_value (line_of x v axes ds c b) c ≡ v
   value_is (Constant k) r h at = sym (eqb-true v k h)

@@ -1,8 +1,9 @@
 -- What a table's line selects. Assumes nothing.
-use Rattle.std.proofs.Common.{◌≡◌, ℕ, zero, suc, ◌+◌, ◌*◌, ◌<◌, ◌≤◌, true, ◌&&◌, eqb, ltb, List, [], ◌∷◌, ◌++◌, map, length, take, drop, refl, ap, ◌∙◌, ap₂, inl, inr, mul-le-mul_right, suc-mul, arith, length-drop, length-take}
+use Rattle.std.proofs.Common.{◌≡◌, ℕ, zero, suc, ◌+◌, ◌*◌, ◌<◌, ◌≤◌, true, ◌&&◌, eqb, ltb, List, [], ◌∷◌, map, length, take, drop, refl, ap, ◌∙◌, ap₂, inl, inr, mul-le-mul_right, suc-mul, arith, length-drop, length-take}
 use Rattle.std.proofs.lemmas.Bool.{and_parts, ltb-true}
 use Rattle.rules.specs.Rules.{Sets, In}
 use Rattle.rules.proofs.Given.{given_line}
+use Rattle.rules.proofs.WrittenBack.{in_first, in_second}
 use Rattle.tables.specs.declared.record.Axis.{Axis}
 use Rattle.tables.specs.declared.record.Cell.{Cell}
 use Rattle.tables.specs.declared.record.Cell.TheVariants.{Constant, Field}
@@ -12,7 +13,7 @@ use Rattle.tables.specs.Reads.{room, block, picked, equals_cell, below_extents, 
 -- ---- which fields a selection can name
 
 -- a front of the cells has only fields of the cells, and so has what lies behind a front
-front_fields : (m : ℕ) (cells : List Cell) (f : ℕ) → In f (cell_fields (take m cells)) → In f (cell_fields cells)
+pub front_fields : (m : ℕ) (cells : List Cell) (f : ℕ) → In f (cell_fields (take m cells)) → In f (cell_fields cells)
 front_fields zero [] f h = h
 front_fields (suc m) [] f h = h
 front_fields zero (c ∷ cells) f h = absurd h
@@ -20,7 +21,7 @@ front_fields (suc m) (Constant k ∷ cells) f h = front_fields m cells f h
 front_fields (suc m) (Field g ∷ cells) f (inl e) = inl e
 front_fields (suc m) (Field g ∷ cells) f (inr h) = inr (front_fields m cells f h)
 
-back_fields : (m : ℕ) (cells : List Cell) (f : ℕ) → In f (cell_fields (drop m cells)) → In f (cell_fields cells)
+pub back_fields : (m : ℕ) (cells : List Cell) (f : ℕ) → In f (cell_fields (drop m cells)) → In f (cell_fields cells)
 back_fields zero [] f h = h
 back_fields (suc m) [] f h = h
 back_fields zero (c ∷ cells) f h = h
@@ -37,20 +38,12 @@ picked_fields (ax ∷ axes) cells (d ∷ ds) f h = block_fields (room axes) d ce
 
 -- ---- settings that agree on the scope give one answer
 
-in_left : (f : ℕ) (xs ys : List ℕ) → In f xs → In f (xs ++ ys)
-in_left f [] ys h = absurd h
-in_left f (x ∷ xs) ys (inl e) = inl e
-in_left f (x ∷ xs) ys (inr h) = inr (in_left f xs ys h)
-
-in_right : (f : ℕ) (xs ys : List ℕ) → In f ys → In f (xs ++ ys)
-in_right f [] ys h = h
-in_right f (x ∷ xs) ys h = inr (in_right f xs ys h)
-
+-- each axis, and each field cell, is in the scope
 pub axis_in_scope : (x : ℕ) (axes : List Axis) (cells : List Cell) (f : ℕ) → In f (map (λ ax. ax.field) axes) → In f (table_scope x axes cells)
-axis_in_scope x axes cells f h = inr (in_left f (map (λ ax. ax.field) axes) (cell_fields cells) h)
+axis_in_scope x axes cells f h = inr (in_first (map (λ ax. ax.field) axes) (cell_fields cells) f h)
 
 pub cell_in_scope : (x : ℕ) (axes : List Axis) (cells : List Cell) (f : ℕ) → In f (cell_fields cells) → In f (table_scope x axes cells)
-cell_in_scope x axes cells f h = inr (in_right f (map (λ ax. ax.field) axes) (cell_fields cells) h)
+cell_in_scope x axes cells f h = inr (in_second (map (λ ax. ax.field) axes) (cell_fields cells) f h)
 
 module _ (a b : ℕ → ℕ) where
   extents_agree : (axes : List Axis) → ((f : ℕ) → In f (map (λ ax. ax.field) axes) → a f ≡ b f) → below_extents axes a ≡ below_extents axes b
