@@ -2,6 +2,7 @@ pub mod Blocks
 pub mod Closing
 pub mod Cutting
 pub mod Exact
+pub mod Finding
 pub mod Fitting
 pub mod LeftExact
 pub mod Levels

@@ -27,19 +27,6 @@ impl<'a> Scope<'a> {
             cells: cells.iter(),
         }
     }
-
-    // The next field of a cell; the cells before it are passed over.
-    fn next_cell_field(&mut self) -> Option<u8>
-        ensures given { YieldsFirst (λ s. cell_fields (iter_rest s.cells)) self.old result self.new }
-        ensures kept { (self.new.x ≡ self.old.x) × (self.new.axes ≡ self.old.axes) }
-    {
-        while let Some(cell) = self.cells.next() {
-            if let Some(f) = cell.field() {
-                return Some(f);
-            }
-        }
-        None
-    }
 }
 
 impl<'a> Iterator for Scope<'a> {
@@ -56,6 +43,6 @@ impl<'a> Iterator for Scope<'a> {
         if let Some(axis) = self.axes.next() {
             return Some(axis.field);
         }
-        self.next_cell_field()
+        self.cells.find_map(|cell| cell.field())
     }
 }
