@@ -1,8 +1,7 @@
 // The scope of a table, field by field.
 ghost use Rattle.std.specs.Prelude.{◌≡◌};
 ghost use Rattle.std.specs.Iterator.{YieldsFirst, item_count};
-ghost use Rattle.std.specs.Slice.Iter.{iter_rest};
-ghost use Rattle.tables.specs.Reads.{cell_fields, table_scope};
+ghost use Rattle.tables.specs.Reads.{table_scope};
 ghost use Rattle.tables.specs.Scopes.{fields_left};
 
 use crate::record::{Axis, Cell};
