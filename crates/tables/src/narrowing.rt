@@ -1,11 +1,10 @@
 // Narrowing the rows of one table.
-ghost use Rattle.std.specs.Prelude.{◌≡◌, ℕ, ◌<◌, ◌≤◌, true, false, not, ◌&&◌, map, length, Decides, nat_lt, slice_index_or};
+ghost use Rattle.std.specs.Prelude.{◌≡◌, ℕ, ◌<◌, true, false, ◌&&◌, map, length, Decides, nat_lt, slice_index_or};
 ghost use Rattle.rules.specs.Writes.{Written, OwnRows};
 ghost use Rattle.rules.specs.Books.{Narrowing, sets};
 ghost use Rattle.rules.specs.Rules.{In};
 ghost use Rattle.tables.specs.Left.{IsOnly, axes_left, cut_scope, table_left};
 ghost use Rattle.tables.specs.Reads.{cell_fields};
-ghost use Rattle.tables.specs.Scans.{unmarked};
 ghost use Rattle.tables.specs.Views.{rule_of, scope_of};
 
 use crate::found::{Hits, Marks, Rests};
