@@ -1,8 +1,8 @@
 -- How many values four words have. Assumes nothing.
-use Rattle.std.proofs.Common.{◌≡◌, ℕ, ◌+◌, ◌*◌, ◌/◌, ◌%◌, ◌<◌, ◌&&◌, List, [], ◌∷◌, length, map, sum, get_or, ap, ◌∙◌, ap₂, arith, lit<}
+use Rattle.std.proofs.Common.{◌≡◌, ℕ, ◌+◌, ◌-◌, ◌*◌, ◌/◌, ◌%◌, ◌<◌, ◌≤◌, true, false, ◌&&◌, List, [], ◌∷◌, length, map, sum, get_or, ap, ◌∙◌, ap₂, arith, lit<, ⊎_elim, refl, Option, Some, None}
 use Rattle.std.proofs.lemmas.Nat.{div-mul-add, mod-mul-add}
-use Rattle.std.proofs.lemmas.Bool.{lt-ltb}
-use Rattle.rows.specs.Values.{how_many}
+use Rattle.std.proofs.lemmas.Bool.{lt-ltb, le-ltb, cases_lt}
+use Rattle.rows.specs.Values.{Values, how_many, Empty, GreatestOf, Greatest}
 use Rattle.rows.specs.Words.{bit}
 use Rattle.rows.proofs.Counts.{how_many_add, how_many_same, how_many_none}
 use Rattle.bits.specs.declared.record.Bits.{Bits}
@@ -44,3 +44,43 @@ four h ws l = absurd (omega arith)
 -- the numbers in the words together are the values of the row
 pub sum_of_words : (r : Bits) → length r.words ≡ 4 → sum (map (λ w. how_many 64 (bit w)) r.words) ≡ how_many 256 (bits_have r)
 sum_of_words r l = four (λ w. how_many 64 (bit w)) r.words l ∙ by_words r
+
+-- a value is the greatest where its place is the greatest of its word, and the words after it are empty
+pub greatest_at : (r : Bits) (i v : ℕ) → i < 4 → 64 * i ≤ v → v < 64 * i + 64 → GreatestOf (bit (get_or r.words i 0)) (v - 64 * i)
+    → ((j : ℕ) → i < j → j < 4 → Empty (bit (get_or r.words j 0))) → GreatestOf (bits_have r) v
+greatest_at r i v h low high top none = record { member = there; bound = above }
+  where
+    there : bits_have r v ≡ true
+    there =
+        let word : v / 64 ≡ i = omega arith in
+        let bit_of : v % 64 ≡ v - 64 * i = omega arith in
+        ap₂ ◌&&◌ (lt-ltb v 256 (omega arith)) (ap₂ (λ w k. bit (get_or r.words w 0) k) word bit_of ∙ top.member)
+
+    above : (w : ℕ) → v < w → bits_have r w ≡ false
+    above w l =
+        ⊎_elim
+        (λ within. ap₂ ◌&&◌ (lt-ltb w 256 within) (in_its_word within))
+        (λ out. ap (λ b. b && bit (get_or r.words (w / 64) 0) (w % 64)) (le-ltb w 256 out))
+        (cases_lt w 256)
+      where
+        in_its_word : w < 256 → bit (get_or r.words (w / 64) 0) (w % 64) ≡ false
+        in_its_word within =
+            ⊎_elim
+            (λ later. none (w / 64) later (omega arith) (w % 64))
+            (λ not_later.
+            let same : w / 64 ≡ i = omega arith in
+            ap (λ j. bit (get_or r.words j 0) (w % 64)) same ∙ top.bound (w % 64) (omega arith))
+            (cases_lt i (w / 64))
+
+-- no word has a number
+pub none_at : (r : Bits) → ((j : ℕ) → j < 4 → Empty (bit (get_or r.words j 0))) → Empty (bits_have r)
+none_at r none v =
+    ⊎_elim
+    (λ within. ap₂ ◌&&◌ (lt-ltb v 256 within) (none (v / 64) (omega arith) (v % 64)))
+    (λ out. ap (λ b. b && bit (get_or r.words (v / 64) 0) (v % 64)) (le-ltb v 256 out))
+    (cases_lt v 256)
+
+-- a greatest value, or that there is none
+pub greatest_of : (p : Values) (r : Option ℕ) → (r ≡ None → Empty p) → ((v : ℕ) → r ≡ Some v → GreatestOf p v) → Greatest p r
+greatest_of p None none some = none refl
+greatest_of p (Some v) none some = some v refl

@@ -107,11 +107,6 @@ impl OrderedRow for Bits {
     }
 
     fn greatest(self) -> Option<u8> {
-        for i in (0..4u8).rev() {
-            if let Some(k) = words::greatest(self.words[i as usize]) {
-                return Some(i * 64 + k);
-            }
-        }
-        None
+        (0..4u8).rev().find_map(|i| words::greatest(self.words[i as usize]).map(|k| 64 * i + k))
     }
 }
