@@ -94,11 +94,9 @@ impl<'a> Table<'a> {
             axes: [[false; 256]; 4],
         };
         let hits = Pass { x: row, rows }.scan(self.axes, 0, self.cells, &mut rests);
-        let filled = self.is_filled(rows);
-        match hits {
-            Hits::Nothing => clear(rows, self.scope()),
-            _ if filled => self.keep_supported(&rests, hits, rows),
-            _ => clear(rows, self.scope()),
+        if hits == Hits::Nothing || !self.is_filled(rows) {
+            return clear(rows, self.scope());
         }
+        self.keep_supported(&rests, hits, rows)
     }
 }
