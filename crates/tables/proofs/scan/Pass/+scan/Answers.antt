@@ -38,7 +38,7 @@ pub nonzero_div-size : goal.nonzero_div-size
 nonzero_div-size g t c = extent_positive _ _ _ _ _ (whole_ok _ _ _ _ _ _ c.in-Some.ensures.cases.0 c.requires)
 
 pub chunks_exact-requires : goal.chunks_exact-requires
-chunks_exact-requires g t c = size_some _ _ _ _ _ _ c.in-Some.ensures.cases.0 c.requires
+chunks_exact-requires g t c = omega (arith, size_some _ _ _ _ _ _ c.in-Some.ensures.cases.0 c.requires)
 
 pub loop-d-init : goal.loop-d-init
 loop-d-init g t c =
