@@ -5,6 +5,7 @@ use Rattle.std.specs.declared.iter.Rev.{Rev}
 use Rattle.std.specs.declared.ops.Range.{Range}
 use Rattle.std.specs.Range.{range_steps_back}
 use Rattle.std.specs.Iterator.Runs.{Run, YieldsRun}
+use Rattle.std.proofs.lemmas.List.{map-id}
 use Rattle.std.proofs.lemmas.Iterator.{YieldsList, items_from_drains}
 use Rattle.std.proofs.lemmas.Iterator.Consumers.{YieldsList-from_shown, YieldsList-so_far}
 
@@ -41,11 +42,6 @@ next s x t e =
 yields : (s : Rev (Range ℕ)) → YieldsList back (λ x. x) s (shown s)
 yields = YieldsList-from_shown back (λ x. x) shown nothing next
 
--- a list read as it is
-same : (xs : List ℕ) → map (λ x. x) xs ≡ xs
-same [] = refl
-same (x ∷ xs) = ap (λ ys. x ∷ ys) (same xs)
-
 -- the numbers below 4, greatest first
 abbrev four : List ℕ
 four = 3 ∷ 2 ∷ 1 ∷ 0 ∷ []
@@ -70,9 +66,9 @@ unfolding YieldsRun
 four_back p from =
     let all : shown p.from ≡ four = ap (λ r. down r.start (r.end - r.start)) from in
     let run = p.gave.0 in
-    let so_far = sym (same p.items) ∙ YieldsList-so_far (yields p.from) p.items run.0 run.1 ∙ ap (take (length p.items)) all in
+    let so_far = sym (map-id p.items) ∙ YieldsList-so_far (yields p.from) p.items run.0 run.1 ∙ ap (take (length p.items)) all in
     let f = front p.items so_far in (
       omega (arith, p.long, f.0),
-      λ w. p.long ∙ ap length (sym (same p.items) ∙ items_from_drains p.items (run.0, run.1, λ _. run.2 w) (yields p.from) ∙ all),
+      λ w. p.long ∙ ap length (sym (map-id p.items) ∙ items_from_drains p.items (run.0, run.1, λ _. run.2 w) (yields p.from) ∙ all),
       λ j h l. p.gave.1 (3 - j) ∙ f.1 j h (omega (arith, p.long)),
     )

@@ -7,7 +7,7 @@ use Rattle.std.proofs.lemmas.Bool.Decides.{nat_tests}
 use Rattle.rows.specs.Values.{Values}
 use Rattle.rules.specs.Books.{no_rule}
 use Rattle.rules.specs.Rules.{In, Distinct, EachRule, LawfulRule}
-use Rattle.rules.proofs.WrittenBack.{in_either}
+use Rattle.rules.proofs.Lists.{in_either}
 use Rattle.tables.specs.Reads.{room, positive, axes_of, cell_fields, cells_of, table_scope, lookup_rule, table_rule, makes_sense}
 use Rattle.tables.specs.declared.record.Axis.{Axis}
 use Rattle.tables.specs.declared.record.Cell.{Cell}

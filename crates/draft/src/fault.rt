@@ -41,7 +41,7 @@ impl From<DraftFault> for u8 {
 }
 
 // A refused entry: the draft as it was, and why.
-#[derive(PartialEq, Eq, Debug, Drop)]
+#[derive(Drop)]
 pub struct Refused {
     pub draft: Draft,
     pub fault: DraftFault,

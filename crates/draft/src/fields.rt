@@ -53,7 +53,7 @@ impl Draft {
             || memory.parts.len() < self.parts
     }
 
-    // Whether the lent places hold what is entered, and no cell lacks.
+    // What is wrong with any entry but cells, if anything is: the lent places are too few, or cells lack.
     pub(crate) fn check_ready(&self, rows: usize, memory: &Memory) -> Result<(), DraftFault>
         ensures { Checked (ready_lines self.now rows (held memory.now)) tt result }
     {

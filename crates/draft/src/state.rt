@@ -1,6 +1,6 @@
 // A sheet that is being entered: how much of each kind is there. What was entered stands in lent
 // rows and memory.
-#[derive(PartialEq, Eq, Debug, Drop)]
+#[derive(Drop)]
 pub struct Draft {
     pub(crate) fields: usize,
     pub(crate) tables: usize,

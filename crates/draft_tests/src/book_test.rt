@@ -9,7 +9,6 @@ use rows::{OrderedRow, Row};
 use rules::Book;
 use rules::pair::Joined;
 use runs::record::Runs;
-use std::alloc::Global;
 use std::process::Abort;
 use std::test::Fail;
 use tables::record::Tables;
@@ -52,8 +51,8 @@ fn own_book_fault(draft: &Draft, lent: &mut Lent<Bits>) -> Option<DraftFault> {
 }
 
 // Tables come first, then frames, each in order; a table that lacks cells is not in it.
-fn books<R: OrderedRow>(rt: &impl Abort, heap: Global) -> Result<(), Fail> {
-    let mut lent = Lent::<R>::blank(heap, AMPLE)?;
+fn books<R: OrderedRow>(rt: &(impl Abort + AllocGlobal)) -> Result<(), Fail> {
+    let mut lent = Lent::<R>::blank(rt.alloc(), AMPLE)?;
     own_book_tells(rt, &Draft::new(), &mut lent, &[])?;
     let draft = enter_sheet(rt, &mut lent, true);
     own_book_tells(rt, &draft, &mut lent, &[&[0, 1, 2], &[3, 4]])?;
@@ -68,13 +67,13 @@ fn books<R: OrderedRow>(rt: &impl Abort, heap: Global) -> Result<(), Fail> {
 
 #[test]
 fn the_own_book_has_what_is_entered(rt: HostRuntime) -> Result<(), Fail> {
-    books::<Bits>(&rt, rt.alloc())?;
-    books::<Runs>(&rt, rt.alloc())
+    books::<Bits>(&rt)?;
+    books::<Runs>(&rt)
 }
 
 // The own book of the small sheet over these places is refused.
-fn is_refused(rt: &impl Abort, heap: Global, places: Places) -> Result<(), Fail> {
-    let mut whole = Lent::<Bits>::blank(heap, AMPLE)?;
+fn is_refused(rt: &(impl Abort + AllocGlobal), places: Places) -> Result<(), Fail> {
+    let mut whole = Lent::<Bits>::blank(rt.alloc(), AMPLE)?;
     let draft = enter_sheet(rt, &mut whole, true);
     let mut lent = whole.copied(places)?;
     assert_eq!(rt; own_book_fault(&draft, &mut lent), Some(DraftFault::Short));
@@ -84,9 +83,9 @@ fn is_refused(rt: &impl Abort, heap: Global, places: Places) -> Result<(), Fail>
 #[test]
 fn less_memory_than_the_entries_fill_has_no_book(rt: HostRuntime) -> Result<(), Fail> {
     let just = filled(true);
-    is_refused(&rt, rt.alloc(), Places { ranges: 5, ..just })?;
-    is_refused(&rt, rt.alloc(), Places { heads: 1, ..just })?;
-    is_refused(&rt, rt.alloc(), Places { cells: 5, ..just })?;
-    is_refused(&rt, rt.alloc(), Places { frames: 0, ..just })?;
-    is_refused(&rt, rt.alloc(), Places { parts: 1, ..just })
+    is_refused(&rt, Places { ranges: 5, ..just })?;
+    is_refused(&rt, Places { heads: 1, ..just })?;
+    is_refused(&rt, Places { cells: 5, ..just })?;
+    is_refused(&rt, Places { frames: 0, ..just })?;
+    is_refused(&rt, Places { parts: 1, ..just })
 }

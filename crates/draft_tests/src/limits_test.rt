@@ -1,8 +1,7 @@
 // The limits of a sheet, over memory that has more room than they leave.
 use crate::lent::{Lent, Places};
-use crate::sheet::{Entry, Step, follow};
+use crate::sheet::{BAD_RANGE, Entry, FULL, MISPLACED, SHAPE, Step, follow};
 use bits::record::Bits;
-use draft::fault::DraftFault;
 use draft::state::Draft;
 use rows::Row;
 use runs::record::Runs;
@@ -18,14 +17,6 @@ const ROOMY: Places = Places {
     frames: 40,
     parts: 1200,
 };
-
-const MISPLACED: Option<DraftFault> = Some(DraftFault::Misplaced);
-
-const BAD_RANGE: Option<DraftFault> = Some(DraftFault::BadRange);
-
-const SHAPE: Option<DraftFault> = Some(DraftFault::Shape);
-
-const FULL: Option<DraftFault> = Some(DraftFault::Full);
 
 // Takes the same steps so many times.
 fn repeat<R: Row>(
@@ -46,14 +37,13 @@ const FIELD: [Step; 1] = [(Entry::Field(0, 1), &[], None)];
 
 // With so many fields, so many times the same steps reach a limit, and the others show it.
 fn ends<R: Row>(
-    rt: &impl Abort,
-    heap: Global,
+    rt: &(impl Abort + AllocGlobal),
     fields: usize,
     times: usize,
     steps: &[Step],
     others: &[Step],
 ) -> Result<(), Fail> {
-    let mut lent = Lent::<R>::blank(heap, ROOMY)?;
+    let mut lent = Lent::<R>::blank(rt.alloc(), ROOMY)?;
     let mut draft = repeat(rt, Draft::new(), &mut lent, &FIELD, fields);
     draft = repeat(rt, draft, &mut lent, steps, times);
     draft = follow(rt, draft, &mut lent, others);
@@ -62,15 +52,14 @@ fn ends<R: Row>(
 }
 
 fn ends_in_every_kind(
-    rt: &impl Abort,
-    heap: Global,
+    rt: &(impl Abort + AllocGlobal),
     fields: usize,
     times: usize,
     steps: &[Step],
     others: &[Step],
 ) -> Result<(), Fail> {
-    ends::<Bits>(rt, heap, fields, times, steps, others)?;
-    ends::<Runs>(rt, heap, fields, times, steps, others)
+    ends::<Bits>(rt, fields, times, steps, others)?;
+    ends::<Runs>(rt, fields, times, steps, others)
 }
 
 const PAST_FIELDS: [Step; 3] = [
@@ -81,7 +70,7 @@ const PAST_FIELDS: [Step; 3] = [
 
 #[test]
 fn there_are_at_most_240_fields(rt: HostRuntime) -> Result<(), Fail> {
-    ends_in_every_kind(&rt, rt.alloc(), 239, 1, &FIELD, &PAST_FIELDS)
+    ends_in_every_kind(&rt, 239, 1, &FIELD, &PAST_FIELDS)
 }
 
 const WIDE: [Step; 2] = [
@@ -98,8 +87,8 @@ const TOO_WIDE: [Step; 4] = [
 
 #[test]
 fn a_range_lies_below_the_span(rt: HostRuntime) -> Result<(), Fail> {
-    ends::<Bits>(&rt, rt.alloc(), 0, 1, &WIDE, &[])?;
-    ends::<Runs>(&rt, rt.alloc(), 0, 1, &TOO_WIDE, &[])
+    ends::<Bits>(&rt, 0, 1, &WIDE, &[])?;
+    ends::<Runs>(&rt, 0, 1, &TOO_WIDE, &[])
 }
 
 const TABLE: [Step; 2] = [
@@ -116,7 +105,7 @@ const PAST_TABLES: [Step; 4] = [
 
 #[test]
 fn there_are_at_most_64_tables(rt: HostRuntime) -> Result<(), Fail> {
-    ends_in_every_kind(&rt, rt.alloc(), 2, 64, &TABLE, &PAST_TABLES)
+    ends_in_every_kind(&rt, 2, 64, &TABLE, &PAST_TABLES)
 }
 
 // A table of 1,024 cells, all of which but one come in one list.
@@ -140,7 +129,7 @@ const PAST_CELLS: [Step; 3] = [
 
 #[test]
 fn there_are_at_most_4096_cells(rt: HostRuntime) -> Result<(), Fail> {
-    ends_in_every_kind(&rt, rt.alloc(), 3, 4, &LARGE_TABLE, &PAST_CELLS)
+    ends_in_every_kind(&rt, 3, 4, &LARGE_TABLE, &PAST_CELLS)
 }
 
 const FRAME: [Step; 1] = [(Entry::Frame(9), &[0, 1, 1, 1], None)];
@@ -154,7 +143,7 @@ const PAST_FRAMES: [Step; 4] = [
 
 #[test]
 fn there_are_at_most_32_frames(rt: HostRuntime) -> Result<(), Fail> {
-    ends_in_every_kind(&rt, rt.alloc(), 2, 32, &FRAME, &PAST_FRAMES)
+    ends_in_every_kind(&rt, 2, 32, &FRAME, &PAST_FRAMES)
 }
 
 // Pairs of the fields from 0 on with the number 1.
@@ -171,5 +160,5 @@ fn there_are_at_most_1024_parts(rt: HostRuntime) -> Result<(), Fail> {
         (Entry::Frame(9), more.as_slice(), SHAPE),
         (Entry::Frame(9), most.as_slice(), None),
     ];
-    ends_in_every_kind(&rt, rt.alloc(), 65, 16, &steps, &PAST_FRAMES)
+    ends_in_every_kind(&rt, 65, 16, &steps, &PAST_FRAMES)
 }

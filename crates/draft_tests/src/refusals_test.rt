@@ -6,13 +6,14 @@
 // nothing stands twice, and no cell or part is unknown; x of a head still can be. Cells never meet a
 // limit, since a head counts them all.
 use crate::lent::{Lent, Places};
-use crate::sheet::{AMPLE, Entry, MISSING, Step, enter_sheet, filled, step};
+use crate::sheet::{
+    AMPLE, BAD_RANGE, Entry, FULL, MISPLACED, MISSING, SHAPE, Step, enter_sheet, filled, step,
+};
 use bits::record::Bits;
 use draft::fault::DraftFault;
 use draft::state::Draft;
 use rows::Row;
 use runs::record::Runs;
-use std::alloc::Global;
 use std::process::Abort;
 use std::test::Fail;
 
@@ -111,14 +112,6 @@ fn met_before(open: bool, fits: Fits, entry: Entry) -> Option<DraftFault> {
     }
 }
 
-const BAD_RANGE: Option<DraftFault> = Some(DraftFault::BadRange);
-
-const MISPLACED: Option<DraftFault> = Some(DraftFault::Misplaced);
-
-const SHAPE: Option<DraftFault> = Some(DraftFault::Shape);
-
-const FULL: Option<DraftFault> = Some(DraftFault::Full);
-
 const NO_SUCH_FIELD: Option<DraftFault> = Some(DraftFault::NoSuchField);
 
 const TWICE: Option<DraftFault> = Some(DraftFault::Twice);
@@ -161,13 +154,12 @@ fn stays<R: Row>(
 
 // The case is answered by the uppermost refusal that is met; a refusal leaves all as it was.
 fn answers<R: Row>(
-    rt: &impl Abort,
-    heap: Global,
+    rt: &(impl Abort + AllocGlobal),
     open: bool,
     fits: Fits,
     case: Step,
 ) -> Result<(), Fail> {
-    let mut whole = Lent::<R>::blank(heap, AMPLE)?;
+    let mut whole = Lent::<R>::blank(rt.alloc(), AMPLE)?;
     let draft = enter_sheet(rt, &mut whole, open);
     let lent = places(fits, filled(open));
     let mut tried = whole.copied(lent)?;
@@ -180,18 +172,18 @@ fn answers<R: Row>(
     stays(rt, after, &tried, lent, &mut whole, open)
 }
 
-fn answers_everywhere<R: Row>(rt: &impl Abort, heap: Global, case: Step) -> Result<(), Fail> {
+fn answers_everywhere<R: Row>(rt: &(impl Abort + AllocGlobal), case: Step) -> Result<(), Fail> {
     for fits in LENDINGS {
-        answers::<R>(rt, heap, false, fits, case)?;
-        answers::<R>(rt, heap, true, fits, case)?;
+        answers::<R>(rt, false, fits, case)?;
+        answers::<R>(rt, true, fits, case)?;
     }
     Ok(())
 }
 
-fn all_answer(rt: &impl Abort, heap: Global, cases: &[Step]) -> Result<(), Fail> {
+fn all_answer(rt: &(impl Abort + AllocGlobal), cases: &[Step]) -> Result<(), Fail> {
     for case in cases {
-        answers_everywhere::<Bits>(rt, heap, *case)?;
-        answers_everywhere::<Runs>(rt, heap, *case)?;
+        answers_everywhere::<Bits>(rt, *case)?;
+        answers_everywhere::<Runs>(rt, *case)?;
     }
     Ok(())
 }
@@ -207,7 +199,7 @@ const FIELDS: [Step; 6] = [
 
 #[test]
 fn fields_are_refused_by_the_uppermost_line(rt: HostRuntime) -> Result<(), Fail> {
-    all_answer(&rt, rt.alloc(), &FIELDS)
+    all_answer(&rt, &FIELDS)
 }
 
 // The memory that has room has eight cells more.
@@ -241,7 +233,7 @@ const TABLES: [Step; 22] = [
 
 #[test]
 fn tables_are_refused_by_the_uppermost_line(rt: HostRuntime) -> Result<(), Fail> {
-    all_answer(&rt, rt.alloc(), &TABLES)
+    all_answer(&rt, &TABLES)
 }
 
 // Three cells lack; the table names fields 1, 2 and 3.
@@ -280,7 +272,7 @@ const CELLS: [Step; 27] = [
 
 #[test]
 fn cells_are_refused_by_the_uppermost_line(rt: HostRuntime) -> Result<(), Fail> {
-    all_answer(&rt, rt.alloc(), &CELLS)
+    all_answer(&rt, &CELLS)
 }
 
 // The memory that has room has eight parts more.
@@ -316,5 +308,5 @@ const FRAMES: [Step; 16] = [
 
 #[test]
 fn frames_are_refused_by_the_uppermost_line(rt: HostRuntime) -> Result<(), Fail> {
-    all_answer(&rt, rt.alloc(), &FRAMES)
+    all_answer(&rt, &FRAMES)
 }

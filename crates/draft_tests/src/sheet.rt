@@ -35,6 +35,15 @@ pub(crate) fn enter<R: Row>(
     }
 }
 
+// Refusals that more than one table of steps names.
+pub(crate) const MISPLACED: Option<DraftFault> = Some(DraftFault::Misplaced);
+
+pub(crate) const BAD_RANGE: Option<DraftFault> = Some(DraftFault::BadRange);
+
+pub(crate) const SHAPE: Option<DraftFault> = Some(DraftFault::Shape);
+
+pub(crate) const FULL: Option<DraftFault> = Some(DraftFault::Full);
+
 // An entry with its list, and the refusal that it meets; none if it is accepted.
 pub(crate) type Step<'a> = (Entry, &'a [u8], Option<DraftFault>);
 

@@ -8,7 +8,6 @@ use draft::memory::Range;
 use frames::record::{Frame, Part};
 use rows::Row;
 use runs::record::Runs;
-use std::alloc::Global;
 use std::process::Abort;
 use std::test::Fail;
 use tables::record::{Axis, Cell, Head};
@@ -98,8 +97,8 @@ fn memory_is_written(rt: &impl Abort, lists: &Lists) {
     assert_eq!(rt; lists.parts.as_slice(), PARTS.as_slice());
 }
 
-fn writes<R: Row>(rt: &impl Abort, heap: Global) -> Result<(), Fail> {
-    let mut lent = Lent::<R>::blank(heap, AMPLE)?;
+fn writes<R: Row>(rt: &(impl Abort + AllocGlobal)) -> Result<(), Fail> {
+    let mut lent = Lent::<R>::blank(rt.alloc(), AMPLE)?;
     let draft = enter_sheet(rt, &mut lent, true);
     let after = step(rt, draft, &mut lent, MISSING);
     assert_eq!(rt; after.field_count(), 6);
@@ -111,6 +110,6 @@ fn writes<R: Row>(rt: &impl Abort, heap: Global) -> Result<(), Fail> {
 
 #[test]
 fn entries_write_their_places(rt: HostRuntime) -> Result<(), Fail> {
-    writes::<Bits>(&rt, rt.alloc())?;
-    writes::<Runs>(&rt, rt.alloc())
+    writes::<Bits>(&rt)?;
+    writes::<Runs>(&rt)
 }

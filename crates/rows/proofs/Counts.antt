@@ -1,6 +1,6 @@
 -- How many values a set has. Assumes nothing.
 use Rattle.std.proofs.Common.{◌≡◌, ℕ, zero, suc, ◌+◌, ◌<◌, ◌≤◌, Bool, true, false, cond, not, ◌&&◌, ◌⊎◌, sym, refl, ap, ◌∙◌, subst, ap₂, inl, inr, ⊎_elim, add_assoc, add_comm, suc-add, zero-add, arith}
-use Rattle.std.proofs.lemmas.Bool.{cases_eq, cases_Bool, cond-true, cond-false, false≢true, eq-eqb, ne_eqb}
+use Rattle.std.proofs.lemmas.Bool.{and_right, cases_eq, cases_Bool, cond-true, cond-false, false≢true, eq-eqb, ne_eqb}
 use Rattle.rows.specs.Values.{Values, without, how_many}
 
 -- what one number counts for
@@ -80,15 +80,12 @@ and_true : (b : Bool) → (b && true) ≡ b
 and_true true = refl
 and_true false = refl
 
-and_false : (b : Bool) → (b && false) ≡ false
-and_false true = refl
-and_false false = refl
 
 pub without_other : (p : Values) (x v : ℕ) → (v ≡ x → ⊥) → without p x v ≡ p v
 without_other p x v ne = ap (λ b. p v && not b) (ne_eqb v x ne) ∙ and_true (p v)
 
 pub without_same : (p : Values) (x v : ℕ) → v ≡ x → without p x v ≡ false
-without_same p x v e = ap (λ b. p v && not b) (eq-eqb v x e) ∙ and_false (p v)
+without_same p x v e = ap (λ b. p v && not b) (eq-eqb v x e) ∙ and_right (p v) false refl
 
 -- taking out a value that is there lowers the size by one
 pub how_many_without : (n : ℕ) (p : Values) (x : ℕ) → x < n → p x ≡ true → how_many n p ≡ how_many n (without p x) + 1

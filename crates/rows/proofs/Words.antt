@@ -162,14 +162,6 @@ top w n p l =
       bound = λ k h. bit_above n (suc j) k t.3 h;
     }
 
--- a word with no digit set is 0
-pub none_set : (w n : ℕ) → n < 2 ^ w → ((k : ℕ) → k < w → bit n k ≡ false) → n ≡ 0
-none_set w n l none =
-    ⊎_elim
-    (λ e. e)
-    (λ p. let t = top w n p l in absurd (both_ways (bit n t.place) (none t.place (omega (arith, t.told))) t.is_set))
-    (eq-zero-or-pos n)
-
 bit_first : (n : ℕ) → bit n 0 ≡ eqb (n % 2) 1
 unfolding bit
 bit_first n = ap (λ m. eqb (m % 2) 1) (div-one n)

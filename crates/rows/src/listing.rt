@@ -51,7 +51,7 @@ impl<R: OrderedRow> Iterator for RowRuns<R> {
 
     fn next(&mut self) -> Option<Run> {
         let run = next_run(self.row, self.from)?;
-        // The number after a run is in none.
+        // The number after a run is in no run, so the next one begins behind it.
         self.from = run.high as usize + 2;
         Some(run)
     }

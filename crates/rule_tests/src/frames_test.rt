@@ -4,13 +4,12 @@ use bits::record::Bits;
 use frames::record::{Frame, Frames, Part};
 use rows::Row;
 use runs::record::Runs;
-use std::alloc::Global;
 use std::process::Abort;
 use std::test::Fail;
 
 // One frame, with loads of 6 in all, leaves in rows of either kind the lines whose sum is at most
 // the limit.
-fn narrows(rt: &impl Abort, heap: Global, limit: u16) -> Result<(), Fail> {
+fn narrows(rt: &(impl Abort + AllocGlobal), limit: u16) -> Result<(), Fail> {
     let frames = [Frame {
         first: 1,
         count: 3,
@@ -27,14 +26,14 @@ fn narrows(rt: &impl Abort, heap: Global, limit: u16) -> Result<(), Fail> {
         parts: &parts,
     };
     let allows = |a: u8, b: u8, c: u8| 6 + a as u16 + b as u16 + c as u16 <= limit;
-    leaves_listed::<Bits, _, _>(rt, heap, &book, &allows)?;
-    leaves_listed::<Runs, _, _>(rt, heap, &book, &allows)
+    leaves_listed::<Bits, _, _>(rt, &book, &allows)?;
+    leaves_listed::<Runs, _, _>(rt, &book, &allows)
 }
 
 #[test]
 fn frames_leave_what_enumeration_leaves(rt: HostRuntime) -> Result<(), Fail> {
     for limit in 0..30u16 {
-        narrows(&rt, rt.alloc(), limit)?;
+        narrows(&rt, limit)?;
     }
     Ok(())
 }

@@ -79,12 +79,11 @@ pub(crate) fn every_shape<F: Fn([u8; 3]) -> Result<(), Fail>>(test: F) -> Result
 
 // Rows of some shapes, narrowed by the first rule of a book, which says whether they lost a value.
 pub(crate) fn narrowed<R: Row, B: Book<R>>(
-    rt: &impl Abort,
-    heap: Global,
+    rt: &(impl Abort + AllocGlobal),
     book: &B,
     shapes: [u8; 3],
 ) -> Result<Vec<R>, Fail> {
-    let mut rows = rows_of::<R>(heap, shapes)?;
+    let mut rows = rows_of::<R>(rt.alloc(), shapes)?;
     let before = total(rows.as_slice());
     let changed = book.narrow(0, 3, rows.as_mut_slice())?;
     assert_eq!(rt; changed, total(rows.as_slice()) < before);
@@ -93,8 +92,7 @@ pub(crate) fn narrowed<R: Row, B: Book<R>>(
 
 // Rows of any shapes, narrowed by the first rule of a book, have what enumeration leaves.
 pub(crate) fn leaves_listed<R: Row, B: Book<R>, F: Fn(u8, u8, u8) -> bool>(
-    rt: &impl Abort,
-    heap: Global,
+    rt: &(impl Abort + AllocGlobal),
     book: &B,
     allows: &F,
 ) -> Result<(), Fail>
@@ -104,7 +102,7 @@ pub(crate) fn leaves_listed<R: Row, B: Book<R>, F: Fn(u8, u8, u8) -> bool>(
         |shapes: [u8; 3]| -> Result<(), Fail>
             requires { F.IsAlwaysCallable allows.now }
         {
-            let rows = narrowed::<R, B>(rt, heap, book, shapes)?;
+            let rows = narrowed::<R, B>(rt, book, shapes)?;
             let left = listed(shapes, allows);
             holds(rt, "as enumerated", rows.as_slice(), left);
             Ok(())

@@ -3,7 +3,6 @@ use crate::small::{every_shape, leaves_listed, narrowed, refuses};
 use bits::record::Bits;
 use rows::Row;
 use runs::record::Runs;
-use std::alloc::Global;
 use std::process::Abort;
 use std::test::Fail;
 use tables::record::{Axis, Cell, Head, Tables};
@@ -74,8 +73,7 @@ fn memory(cells: [Cell; 4]) -> [Cell; 5] {
 
 // A table leaves in rows of either kind the lines in which field 0 equals the cell that is selected.
 fn narrows<F: Fn(u8, u8) -> Option<u8>>(
-    rt: &impl Abort,
-    heap: Global,
+    rt: &(impl Abort + AllocGlobal),
     head: Head,
     place: F,
     cells: [Cell; 4],
@@ -89,12 +87,12 @@ fn narrows<F: Fn(u8, u8) -> Option<u8>>(
         cells: &memory,
     };
     let allows = |a: u8, b: u8, c: u8| value_at(&cells, place(b, c), c) == Some(a);
-    leaves_listed::<Bits, _, _>(rt, heap, &book, &allows)?;
-    leaves_listed::<Runs, _, _>(rt, heap, &book, &allows)
+    leaves_listed::<Bits, _, _>(rt, &book, &allows)?;
+    leaves_listed::<Runs, _, _>(rt, &book, &allows)
 }
 
 // A table that does not name field 2, which keeps its row, says whether it took values away.
-fn tells(rt: &impl Abort, heap: Global, head: Head, cells: [Cell; 4]) -> Result<(), Fail> {
+fn tells(rt: &(impl Abort + AllocGlobal), head: Head, cells: [Cell; 4]) -> Result<(), Fail> {
     let heads = [head];
     let memory = memory(cells);
     let book = Tables {
@@ -102,8 +100,8 @@ fn tells(rt: &impl Abort, heap: Global, head: Head, cells: [Cell; 4]) -> Result<
         cells: &memory,
     };
     every_shape(|shapes| {
-        narrowed::<Bits, _>(rt, heap, &book, shapes)?;
-        narrowed::<Runs, _>(rt, heap, &book, shapes)?;
+        narrowed::<Bits, _>(rt, &book, shapes)?;
+        narrowed::<Runs, _>(rt, &book, shapes)?;
         Ok(())
     })
 }
@@ -114,22 +112,10 @@ fn tables_of_one_axis_leave_what_enumeration_leaves(rt: HostRuntime) -> Result<(
     let (low, high, field) = (Cell::Constant(0), Cell::Constant(7), Cell::Field(2));
     let (four, nine, above) = (Cell::Constant(4), Cell::Constant(9), Cell::Constant(200));
     let head = by_one_axis();
-    narrows(&rt, rt.alloc(), head, place_by_one, [field, low, high, low])?;
-    narrows(
-        &rt,
-        rt.alloc(),
-        head,
-        place_by_one,
-        [low, high, four, field],
-    )?;
-    narrows(
-        &rt,
-        rt.alloc(),
-        head,
-        place_by_one,
-        [above, field, nine, low],
-    )?;
-    tells(&rt, rt.alloc(), head, [low, high, low, high])
+    narrows(&rt, head, place_by_one, [field, low, high, low])?;
+    narrows(&rt, head, place_by_one, [low, high, four, field])?;
+    narrows(&rt, head, place_by_one, [above, field, nine, low])?;
+    tells(&rt, head, [low, high, low, high])
 }
 
 #[test]
@@ -137,8 +123,8 @@ fn tables_of_two_axes_leave_what_enumeration_leaves(rt: HostRuntime) -> Result<(
     let (one, four) = (Cell::Constant(1), Cell::Constant(4));
     let (six, seven) = (Cell::Constant(6), Cell::Constant(7));
     let head = by_two_axes();
-    narrows(&rt, rt.alloc(), head, place_by_two, [one, four, four, one])?;
-    narrows(&rt, rt.alloc(), head, place_by_two, [one, six, four, seven])
+    narrows(&rt, head, place_by_two, [one, four, four, one])?;
+    narrows(&rt, head, place_by_two, [one, six, four, seven])
 }
 
 // A table that does not fit is refused, and its rows keep their sets.

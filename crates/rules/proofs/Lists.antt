@@ -1,5 +1,5 @@
 -- Lists of fields: what stands in them, and lists with nothing twice.
-use Rattle.std.proofs.Common.{◌≡◌, ℕ, ◌<◌, Bool, true, false, cond, eqb, ◌⊎◌, List, [], ◌∷◌, map, length, sym, refl, ap, ◌∙◌, subst, ap₂, inl, inr, not-suc-le-zero}
+use Rattle.std.proofs.Common.{◌≡◌, ℕ, ◌<◌, Bool, true, false, cond, eqb, ◌⊎◌, List, [], ◌∷◌, ◌++◌, map, length, sym, refl, ap, ◌∙◌, subst, ap₂, inl, inr, ⊎_elim, not-suc-le-zero}
 use Rattle.std.proofs.lemmas.Bool.{cases_eq, cond-true, eq-eqb, eqb-true, false≢true}
 use Rattle.rules.specs.Rules.{In, Distinct}
 use Rattle.rules.specs.Tree.{member}
@@ -57,3 +57,36 @@ member_in x (y ∷ ys) e = go (eqb x y) refl e (member_in x ys)
 pub map_same : (a b : ℕ → ℕ) (xs : List ℕ) → ((x : ℕ) → In x xs → a x ≡ b x) → map a xs ≡ map b xs
 map_same a b [] h = refl
 map_same a b (x ∷ xs) h = ap₂ {C = List ℕ} (λ y ys. y ∷ ys) (h x (inl refl)) (map_same a b xs (λ y i. h y (inr i)))
+
+-- ---- two lists, one behind the other
+
+-- a field of two lists is in one of them
+pub in_either : (xs ys : List ℕ) (f : ℕ) → In f (xs ++ ys) → In f xs ⊎ In f ys
+in_either [] ys f h = inr h
+in_either (x ∷ xs) ys f (inl e) = inl (inl e)
+in_either (x ∷ xs) ys f (inr h) = ⊎_elim (λ k. inl (inr k)) (λ k. inr k) (in_either xs ys f h)
+
+pub in_first : (xs ys : List ℕ) (f : ℕ) → In f xs → In f (xs ++ ys)
+in_first [] ys f h = absurd h
+in_first (x ∷ xs) ys f (inl e) = inl e
+in_first (x ∷ xs) ys f (inr h) = inr (in_first xs ys f h)
+
+pub in_second : (xs ys : List ℕ) (f : ℕ) → In f ys → In f (xs ++ ys)
+in_second [] ys f h = h
+in_second (x ∷ xs) ys f h = inr (in_second xs ys f h)
+
+-- where no field stands twice in two lists, they share none
+pub halves_apart : (xs ys : List ℕ) → Distinct (xs ++ ys) → (f : ℕ) → In f xs → In f ys → ⊥
+halves_apart [] ys apart f h k = h
+halves_apart (x ∷ xs) ys apart f (inl e) k = apart.0 (in_second xs ys x (subst (λ u. In u ys) e k))
+halves_apart (x ∷ xs) ys apart f (inr h) k = halves_apart xs ys apart.1 f h k
+
+-- nor does one stand twice in the first
+pub first_distinct : (xs ys : List ℕ) → Distinct (xs ++ ys) → Distinct xs
+first_distinct [] ys apart = tt
+first_distinct (x ∷ xs) ys apart = (λ k. apart.0 (in_first xs ys x k), first_distinct xs ys apart.1)
+
+-- or in the second
+pub second_distinct : (xs ys : List ℕ) → Distinct (xs ++ ys) → Distinct ys
+second_distinct [] ys apart = apart
+second_distinct (x ∷ xs) ys apart = second_distinct xs ys apart.1

@@ -4,6 +4,7 @@ use Rattle.std.proofs.lemmas.Bool.{cases_eq, cond-true, cond-false, eq-eqb, ne_e
 use Rattle.rules.specs.Rules.{Rule, In, Distinct}
 use Rattle.rules.specs.Rings.{Ring, scope_at, next}
 use Rattle.rules.specs.Tree.{labels, Tree}
+use Rattle.rules.proofs.Fields.{in_at}
 use Rattle.rules.proofs.Lists.{label_apart}
 use Rattle.rules.proofs.Labels.{one_label_at}
 
@@ -13,16 +14,11 @@ next_inner k i h = cond-false (eqb (i + 1) k) 0 (i + 1) (ne_eqb (i + 1) k (λ e.
 pub next_last : (k i : ℕ) → suc i ≡ k → next k i ≡ 0
 next_last k i h = cond-true (eqb (i + 1) k) 0 (i + 1) (eq-eqb (i + 1) k (omega arith))
 
-in_getD : (xs : List ℕ) (i : ℕ) → i < length xs → In (get_or xs i 0) xs
-in_getD [] i h = absurd (not-suc-le-zero h)
-in_getD (x ∷ xs) zero h = inl refl
-in_getD (x ∷ xs) (suc i) h = inr (in_getD xs i (le_of_suc-le-suc h))
-
 index_apart : (xs : List ℕ) → Distinct xs → (i j : ℕ) → i < length xs → j < length xs → get_or xs i 0 ≡ get_or xs j 0 → i ≡ j
 index_apart [] d i j h k e = absurd (not-suc-le-zero h)
 index_apart (x ∷ xs) d zero zero h k e = refl
-index_apart (x ∷ xs) d zero (suc j) h k e = absurd (d.0 (subst (λ z. In z xs) (sym e) (in_getD xs j (le_of_suc-le-suc k))))
-index_apart (x ∷ xs) d (suc i) zero h k e = absurd (d.0 (subst (λ z. In z xs) e (in_getD xs i (le_of_suc-le-suc h))))
+index_apart (x ∷ xs) d zero (suc j) h k e = absurd (d.0 (subst (λ z. In z xs) (sym e) (in_at xs j 0 (le_of_suc-le-suc k))))
+index_apart (x ∷ xs) d (suc i) zero h k e = absurd (d.0 (subst (λ z. In z xs) e (in_at xs i 0 (le_of_suc-le-suc h))))
 index_apart (x ∷ xs) d (suc i) (suc j) h k e = ap suc (index_apart xs d.1 i j (le_of_suc-le-suc h) (le_of_suc-le-suc k) e)
 
 -- what stays the same from each number to the next

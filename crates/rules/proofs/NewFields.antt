@@ -6,10 +6,6 @@ use Rattle.rules.specs.Rules.{In, LawfulRule}
 use Rattle.rules.specs.Seen.{was_seen, New, Notes}
 use Rattle.rules.specs.declared.marks.Seen.{Seen}
 
--- the fields fs are new to s exactly when gs are new to t
-abbrev pub Like : ℕ → Seen → List ℕ → Seen → List ℕ → Type 0
-Like n s fs t gs = (New s n fs → New t n gs) × (New t n gs → New s n fs)
-
 -- no field at all is new
 pub none_new : (n : ℕ) (s : Seen) → New s n []
 none_new n s = record { below = λ f h. absurd h; fresh = λ f h. absurd h; apart = tt }
@@ -35,14 +31,6 @@ module _ (n f : ℕ) (s s' : Seen) (after : (g : ℕ) → was_seen s' g ≡ (was
 pub not_new : (n f : ℕ) (s : Seen) (gs : List ℕ) → (n ≤ f) ⊎ (was_seen s f ≡ true) → New s n (f ∷ gs) → ⊥
 not_new n f s gs (inl large) all = omega (arith, all.below f (inl refl))
 not_new n f s gs (inr old) all = both_ways (was_seen s f) (all.fresh f (inl refl)) old
-
--- one field more is noted
-pub like_noted : (n f : ℕ) (s t t' : Seen) (fs gs : List ℕ) → Like n s fs t (f ∷ gs) → f < n → was_seen t f ≡ false
-    → ((g : ℕ) → was_seen t' g ≡ (was_seen t g || eqb g f)) → Like n s fs t' gs
-like_noted n f s t t' fs gs like small fresh after = (
-  λ all. new_rest n f t t' after gs (like.0 all),
-  λ rest. like.1 (new_first n f t t' after gs small fresh rest),
-)
 
 -- a scope that begins with x is lawful exactly when it is new to nothing met
 pub lawful_like : (n x : ℕ) (gs : List ℕ) (allows : List ℕ → Bool) (s : Seen) → ((f : ℕ) → was_seen s f ≡ false)

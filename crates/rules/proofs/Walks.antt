@@ -5,17 +5,12 @@ use Rattle.std.proofs.lemmas.Bool.{cases_eq}
 use Rattle.rules.specs.Rules.{Rule, In, Distinct}
 use Rattle.rules.specs.Rings.{scope_at}
 use Rattle.rules.specs.Tree.{labels}
-use Rattle.rules.proofs.Lists.{from_map}
+use Rattle.rules.proofs.Lists.{from_map, in_either}
 use Rattle.rules.proofs.Labels.{one_label_at, merge_keeps, merge_one, merge_cases, Touches}
-
-in_append : (x : ℕ) (xs ys : List ℕ) → In x (xs ++ ys) → In x xs ⊎ In x ys
-in_append x [] ys i = inr i
-in_append x (z ∷ zs) ys (inl e) = inl (inl e)
-in_append x (z ∷ zs) ys (inr i) = elim (in_append x zs ys i) [ inl j ↦ inl (inr j) | inr j ↦ inr j ]
 
 distinct_append : (xs ys : List ℕ) → Distinct xs → Distinct ys → ((x : ℕ) → In x xs → In x ys → ⊥) → Distinct (xs ++ ys)
 distinct_append [] ys d e k = e
-distinct_append (x ∷ xs) ys d e k = (λ i. elim (in_append x xs ys i) [ inl j ↦ d.0 j | inr j ↦ k x (inl refl) j ], distinct_append xs ys d.1 e (λ z i j. k z (inr i) j))
+distinct_append (x ∷ xs) ys d e k = (λ i. elim (in_either xs ys x i) [ inl j ↦ d.0 j | inr j ↦ k x (inl refl) j ], distinct_append xs ys d.1 e (λ z i j. k z (inr i) j))
 
 in_suc : (x : ℕ) (xs : List ℕ) → In (suc x) (map suc xs) → In x xs
 in_suc x xs i = let t = from_map suc (suc x) xs i in subst (λ z. In z xs) (suc_inj t.2) t.1
@@ -89,7 +84,7 @@ through r rs g s s' z V W i j e k = record {
   walk = join (shift r V.walk) (step (omega arith) i j (shift r W.walk));
   hs_apart = distinct_append (g ∷ V.hs) (s' ∷ W.hs) V.hs_apart W.hs_apart (λ x a b. k (sym (V.under x a) ∙ W.under x b));
   ps_apart = distinct_append (map suc V.ps) (0 ∷ map suc W.ps) (distinct_suc V.ps V.ps_apart) (no_zero W.ps, distinct_suc W.ps W.ps_apart) places;
-  under = λ x a. elim (in_append x (g ∷ V.hs) (s' ∷ W.hs) a) [ inl b ↦ keep x g (V.under x b) | inr b ↦ keep x s' (W.under x b) ∙ merge_one (labels rs) r.scope s' s j i ∙ keep s g e ];
+  under = λ x a. elim (in_either (g ∷ V.hs) (s' ∷ W.hs) x a) [ inl b ↦ keep x g (V.under x b) | inr b ↦ keep x s' (W.under x b) ∙ merge_one (labels rs) r.scope s' s j i ∙ keep s g e ];
 }
   where
     keep : (x y : ℕ) → labels rs x ≡ labels rs y → labels (r ∷ rs) x ≡ labels (r ∷ rs) y

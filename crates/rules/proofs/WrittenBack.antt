@@ -6,7 +6,7 @@ use Rattle.rules.specs.Books.{sets, Loses, Narrowing}
 use Rattle.rules.specs.Writes.{Written, none_left}
 use Rattle.rules.specs.Rules.{Sets, Rule, In, Distinct, Supported}
 use Rattle.rules.proofs.Fields.{front_more, front_old, front_new, front_apart, in_front}
-use Rattle.rules.proofs.Lists.{find}
+use Rattle.rules.proofs.Lists.{find, in_either, in_first, in_second}
 use Rattle.rules.proofs.RowSets.{sets_same, sets_written}
 
 module _ {R : Type 0} (values : R → Values) (new : Sets) (scope : List ℕ) (before : List R) where
@@ -121,37 +121,6 @@ all_in xs f = subst (In f) (sym (take_all (length xs) xs (omega arith)))
 
 all_from : (xs : List ℕ) (f : ℕ) → In f (take (length xs) xs) → In f xs
 all_from xs f = in_front xs (length xs) f
-
--- a field of two lists is in one of them
-pub in_either : (xs ys : List ℕ) (f : ℕ) → In f (xs ++ ys) → In f xs ⊎ In f ys
-in_either [] ys f h = inr h
-in_either (x ∷ xs) ys f (inl e) = inl (inl e)
-in_either (x ∷ xs) ys f (inr h) = ⊎_elim (λ k. inl (inr k)) (λ k. inr k) (in_either xs ys f h)
-
-pub in_first : (xs ys : List ℕ) (f : ℕ) → In f xs → In f (xs ++ ys)
-in_first [] ys f h = absurd h
-in_first (x ∷ xs) ys f (inl e) = inl e
-in_first (x ∷ xs) ys f (inr h) = inr (in_first xs ys f h)
-
-pub in_second : (xs ys : List ℕ) (f : ℕ) → In f ys → In f (xs ++ ys)
-in_second [] ys f h = h
-in_second (x ∷ xs) ys f h = inr (in_second xs ys f h)
-
--- where no field stands twice in two lists, they share none
-pub halves_apart : (xs ys : List ℕ) → Distinct (xs ++ ys) → (f : ℕ) → In f xs → In f ys → ⊥
-halves_apart [] ys apart f h k = h
-halves_apart (x ∷ xs) ys apart f (inl e) k = apart.0 (in_second xs ys x (subst (λ u. In u ys) e k))
-halves_apart (x ∷ xs) ys apart f (inr h) k = halves_apart xs ys apart.1 f h k
-
--- nor does one stand twice in the first
-pub first_distinct : (xs ys : List ℕ) → Distinct (xs ++ ys) → Distinct xs
-first_distinct [] ys apart = tt
-first_distinct (x ∷ xs) ys apart = (λ k. apart.0 (in_first xs ys x k), first_distinct xs ys apart.1)
-
--- or in the second
-pub second_distinct : (xs ys : List ℕ) → Distinct (xs ++ ys) → Distinct ys
-second_distinct [] ys apart = apart
-second_distinct (x ∷ xs) ys apart = second_distinct xs ys apart.1
 
 module _ {R : Type 0} (values : R → Values) where
   -- the fields of a list that is written have their new sets

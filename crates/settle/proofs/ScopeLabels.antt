@@ -13,10 +13,9 @@ use Rattle.rules.specs.Seen.{was_seen, New, Notes, NotesBytes}
 use Rattle.rules.specs.Tree.{member, merge}
 use Rattle.rules.specs.declared.marks.Seen.{Seen}
 use Rattle.rules.proofs.Fields.{in_at}
-use Rattle.rules.proofs.Lists.{member_true, member_in}
+use Rattle.rules.proofs.Lists.{member_true, member_in, in_either, halves_apart}
 use Rattle.rules.proofs.NewFields.{noted_new, refused_old}
 use Rattle.rules.proofs.Telling.{unlawful_size, whole_size, field_is, field_large, place_by_each}
-use Rattle.rules.proofs.WrittenBack.{in_either, halves_apart}
 use Rattle.settle.specs.Labels.{replaced, MeetsLabels}
 use Rattle.settle.proofs.Rounding.{in_or_not}
 

@@ -71,9 +71,7 @@ impl<'a, R: Row> Book<R> for Differing<'a> {
     }
 
     fn narrow(&self, k: usize, n: usize, rows: &mut [R]) -> Result<bool, NarrowFault> {
-        let Some(pair) = self.pair(k) else {
-            return Err(NarrowFault::Unfit);
-        };
+        let pair = self.pair(k).ok_or(NarrowFault::Unfit)?;
         let one = pair.one as usize;
         let other = pair.other as usize;
         if n > rows.len() || one >= n || other >= n || one == other {

@@ -6,7 +6,8 @@ use Rattle.rows.specs.Values.{Values}
 use Rattle.rules.specs.Books.{sets, Loses}
 use Rattle.rules.specs.Rules.{In}
 use Rattle.rules.specs.Writes.{Written, OwnRows}
-use Rattle.rules.proofs.WrittenBack.{one_written, written_append, written_same, still_old, halves_apart, in_first, in_second, first_distinct}
+use Rattle.rules.proofs.Lists.{halves_apart, in_first, in_second, first_distinct}
+use Rattle.rules.proofs.WrittenBack.{one_written, written_append, written_same, still_old}
 use Rattle.tables.specs.declared.found.Hits.{Hits}
 use Rattle.tables.specs.declared.found.Hits.TheVariants.{Only}
 use Rattle.tables.specs.declared.record.Axis.{Axis}

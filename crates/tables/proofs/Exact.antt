@@ -3,8 +3,7 @@ use Rattle.std.proofs.Common.{◌≡◌, ℕ, zero, suc, ◌+◌, ◌-◌, ◌*�
 use Rattle.std.proofs.lemmas.Bool.{cases_order, cases_eq, cond-true, cond-false, eq-eqb, eqb-true, ne_eqb, and_parts, and_from, both_ways, not-true, not_from_false, false≢true}
 use Rattle.rows.specs.Values.{Values}
 use Rattle.rules.specs.Rules.{Sets, In, Distinct, Allowed, Supported}
-use Rattle.rules.proofs.Lists.{find}
-use Rattle.rules.proofs.WrittenBack.{second_distinct}
+use Rattle.rules.proofs.Lists.{find, second_distinct}
 use Rattle.tables.specs.declared.found.Hits.{Hits}
 use Rattle.tables.specs.declared.found.Hits.TheVariants.{Nothing, Only, Several}
 use Rattle.tables.specs.declared.record.Axis.{Axis}

@@ -7,7 +7,8 @@ use Rattle.rows.specs.Values.{Values}
 use Rattle.rules.specs.Books.{sets, Narrowing}
 use Rattle.rules.specs.Rules.{Sets, In, Distinct, Supported}
 use Rattle.rules.specs.Writes.{Written, OwnRows, none_left}
-use Rattle.rules.proofs.WrittenBack.{all_written, some_written, in_either, in_first, in_second, halves_apart, first_distinct}
+use Rattle.rules.proofs.Lists.{in_either, in_first, in_second, halves_apart, first_distinct}
+use Rattle.rules.proofs.WrittenBack.{all_written, some_written}
 use Rattle.tables.specs.declared.found.Hits.{Hits}
 use Rattle.tables.specs.declared.found.Hits.TheVariants.{Nothing, Only, Several}
 use Rattle.tables.specs.Scans.{Marks}

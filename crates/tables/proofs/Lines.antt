@@ -2,7 +2,7 @@
 use Rattle.std.proofs.Common.{◌≡◌, ℕ, true, cond, eqb, ltb, List, [], ◌∷◌, ◌++◌, map, sym, refl, ap, ◌∙◌, subst, ap₂, inl, inr, ⊎_elim, arith}
 use Rattle.std.proofs.lemmas.Bool.{cases_eq, cond-true, cond-false, eq-eqb, eqb-true, ne_eqb, lt-ltb, and_from}
 use Rattle.rules.specs.Rules.{Sets, In, Distinct}
-use Rattle.rules.proofs.WrittenBack.{in_either, in_first, in_second, halves_apart, first_distinct}
+use Rattle.rules.proofs.Lists.{in_either, in_first, in_second, halves_apart, first_distinct}
 use Rattle.tables.specs.declared.record.Axis.{Axis}
 use Rattle.tables.specs.declared.record.Cell.{Cell}
 use Rattle.tables.specs.declared.record.Cell.TheVariants.{Constant, Field}

@@ -3,7 +3,7 @@ use Rattle.std.proofs.Common.{◌≡◌, ℕ, zero, suc, ◌+◌, ◌*◌, ◌<�
 use Rattle.std.proofs.lemmas.Bool.{and_parts, ltb-true}
 use Rattle.rules.specs.Rules.{Sets, In}
 use Rattle.rules.proofs.Given.{given_line}
-use Rattle.rules.proofs.WrittenBack.{in_first, in_second}
+use Rattle.rules.proofs.Lists.{in_first, in_second}
 use Rattle.tables.specs.declared.record.Axis.{Axis}
 use Rattle.tables.specs.declared.record.Cell.{Cell}
 use Rattle.tables.specs.declared.record.Cell.TheVariants.{Constant, Field}
