@@ -81,7 +81,6 @@ module _ {F : Type 0} (g : Mut F (Bor Cell × Unit {0}) (Option ℕ)) (f : F) (t
           → MatchOption o (r ≡ None) (λ x. (h : F) × Called g q (x, tt) r h)
           → MatchOption r ((cell_fields (iter_rest s) ≡ []) × (cell_fields (iter_rest u) ≡ [])) (λ y. cell_fields (iter_rest s) ≡ y ∷ cell_fields (iter_rest u))
       go xs None q t came last folds stop =
-          let empty = no_cells (iter_rest t) last.0 in
           last_found r None _ _ stop ((passed xs s t q came folds).1 ∙ ap (λ i. cell_fields (iter_rest i)) (sym last.1)) whole
       go xs (Some x) q t came last folds stop =
           let before = passed xs s t q came folds in
