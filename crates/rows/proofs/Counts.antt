@@ -80,7 +80,6 @@ and_true : (b : Bool) → (b && true) ≡ b
 and_true true = refl
 and_true false = refl
 
-
 pub without_other : (p : Values) (x v : ℕ) → (v ≡ x → ⊥) → without p x v ≡ p v
 without_other p x v ne = ap (λ b. p v && not b) (ne_eqb v x ne) ∙ and_true (p v)
 

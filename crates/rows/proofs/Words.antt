@@ -1,12 +1,12 @@
 -- What the operations on words do to their binary digits. Assumes nothing.
-use Rattle.std.proofs.Common.{◌≡◌, ℕ, zero, suc, ◌+◌, ◌-◌, ◌*◌, ◌/◌, ◌%◌, ◌^◌, ◌<◌, ◌≤◌, Bool, true, false, not, ◌&&◌, ◌||◌, eqb, ltb, sym, refl, ap, ◌∙◌, subst, ap₂, ⊎_elim, lt_of_lt_of_le, mod-lt, mod-eq_of_lt, eq-zero-or-pos, one-mul, div-one, add-one, one-add, arith, lit<, pow_pos, pow_mono, pow-add, shr-shr}
+use Rattle.std.proofs.Common.{◌≡◌, ℕ, zero, suc, ◌+◌, ◌-◌, ◌*◌, ◌/◌, ◌%◌, ◌^◌, ◌<◌, ◌≤◌, Bool, true, false, not, ◌&&◌, ◌||◌, eqb, ltb, sym, refl, ap, ◌∙◌, subst, ap₂, ⊎_elim, lt_of_lt_of_le, mod-lt, mod-eq_of_lt, one-mul, div-one, add-one, one-add, arith, lit<, pow_pos, pow_mono, pow-add, shr-shr}
 use native.Mathlib.Nat.{div-eq_of_lt, mul-mod_left}
 use lib.Arith.{lt-one}
 use lib.Bits.{bit_and, bit_or, bit_xor, and_mask, xor_add_and, and_shr, or_shr, xor_shr, and_mod, or_mod, xor_mod}
 use lib.Count.{ones, ones_cat, count_leading_zeros, leading_top, count_trailing_zeros, under}
 use lib.Pow.{ones_split, ones_lt, high, low, split, shl-shr, field, mod-mod-pow}
 use Rattle.std.proofs.lemmas.Nat.{one_shl, pow_below, div_below, le-div, shr_below}
-use Rattle.std.proofs.lemmas.Bool.{cases_lt, cases_order, lt-ltb, le-ltb, eq-eqb, ne_eqb, both_ways}
+use Rattle.std.proofs.lemmas.Bool.{cases_lt, cases_order, lt-ltb, le-ltb, eq-eqb, ne_eqb}
 use Rattle.rows.specs.Values.{how_many}
 use Rattle.rows.specs.Words.{bit}
 use Rattle.rows.proofs.Counts.{how_many_same, one_if}

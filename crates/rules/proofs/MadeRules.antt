@@ -1,8 +1,8 @@
 -- Rules that are made from a list, and what a book answers of one. Assumes nothing.
-use Rattle.std.proofs.Common.{◌≡◌, ℕ, zero, suc, ◌<◌, ◌≤◌, List, [], ◌∷◌, map, length, get_or, Err, refl, subst, arith}
+use Rattle.std.proofs.Common.{◌≡◌, ℕ, zero, suc, ◌<◌, ◌≤◌, List, [], ◌∷◌, map, length, get_or, Err, refl, arith}
 use Rattle.rows.specs.Values.{Values}
 use Rattle.rules.specs.Books.{no_rule, rule_at, FitsRule, Narrows}
-use Rattle.rules.specs.Rules.{Rule, In, Distinct, EachRule, LawfulRule, Lawful}
+use Rattle.rules.specs.Rules.{Rule, EachRule, LawfulRule}
 use Rattle.rules.specs.declared.fault.NarrowFault.{NarrowFault}
 use Rattle.rules.specs.declared.fault.NarrowFault.TheVariants.{Unfit}
 use Rattle.rules.proofs.Labels.{each_map}
