@@ -71,7 +71,9 @@ impl<'a, R: Row> Book<R> for Differing<'a> {
     }
 
     fn narrow(&self, k: usize, n: usize, rows: &mut [R]) -> Result<bool, NarrowFault> {
-        let pair = self.pair(k).ok_or(NarrowFault::Unfit)?;
+        let Some(pair) = self.pair(k) else {
+            return Err(NarrowFault::Unfit);
+        };
         let one = pair.one as usize;
         let other = pair.other as usize;
         if n > rows.len() || one >= n || other >= n || one == other {

@@ -19,8 +19,8 @@ fn marked<R: Row>(row: R, marks: &[bool; 256]) -> R
     ensures { (v : ℕ) → R.Row.values result v ≡ (R.Row.values row v && (nat_lt v 256 && slice_index_or marks.now v false)) }
 {
     let mut left = row;
-    for v in 0..R::SPAN {
-        if !marks[v] {
+    for (v, marked) in (0..R::SPAN).zip(marks) {
+        if !*marked {
             left = left.without(v as u8);
         }
     }

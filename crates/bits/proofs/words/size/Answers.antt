@@ -3,8 +3,5 @@ use lib.Count.{ones-le}
 use Rattle.rows.proofs.Words.{ones_are}
 use Rattle.bits.proofs.words.size.Goals as goal
 
-pub overflow_cast-result : goal.overflow_cast-result
-overflow_cast-result c = omega (arith, ones-le 64 c.args.word (omega arith))
-
 pub returns : goal.returns
 returns c = record { value = ones_are 64 c.args.word (omega arith); bound = ones-le 64 c.args.word (omega arith) }

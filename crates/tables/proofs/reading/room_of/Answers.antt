@@ -1,10 +1,8 @@
-use Rattle.std.proofs.Common.{◌≡◌, ◌+◌, ◌*◌, ◌<◌, ◌&&◌, leb, ◌⊎◌, get_or, drop, sym, ap, ◌∙◌, ap₂, inl, inr, ⊎_elim, mul_assoc, arith}
-use Rattle.std.proofs.lemmas.Nat.{mul-le}
+use Rattle.std.proofs.Common.{◌≡◌, ◌+◌, ◌*◌, ◌<◌, ◌&&◌, leb, ◌⊎◌, get_or, drop, ap, ◌∙◌, ap₂, inl, inr, ⊎_elim, arith}
 use Rattle.std.proofs.lemmas.List.{drop_more, drop_all}
-use Rattle.std.proofs.lemmas.Bool.{le-leb}
 use Rattle.tables.specs.Reads.{room, positive}
 use Rattle.tables.specs.declared.record.Axis.{Axis}
-use Rattle.tables.proofs.ViewSteps.{room_over, factor_some}
+use Rattle.tables.proofs.ViewSteps.{room_over}
 use Rattle.tables.proofs.reading.room_of.Goals as goal
 
 pub returns-then-room-eq0 : goal.returns-then-room-eq0
@@ -18,22 +16,6 @@ returns-then-room-eq0 c =
     ap₂ (λ p n. p && leb n 1024) inv.1 inv.0
     ∙ ap (λ rest. positive rest && leb (r * room rest) 1024) (drop_more axes i (record { field = 0; extent = 0 }) c.loop-axis-test.true)
     ∙ room_over r ax (drop (i + 1) axes) inv.2 over
-
-pub loop-axis-preserved : goal.loop-axis-preserved
-loop-axis-preserved c =
-    let axes = c.args.axes.now in
-    let i = c.loop-axis.axis-index in
-    let r = c.loop-axis.room in
-    let ax : Axis = get_or axes i (record { field = 0; extent = 0 }) in
-    let rest = drop (i + 1) axes in
-    let inv = c.loop-axis.invariant in
-    let next = drop_more axes i (record { field = 0; extent = 0 }) c.loop-axis-test.true in
-    let some = factor_some r ax.extent c.if-room-eq0.false in (
-      inv.0 ∙ ap (λ xs. r * room xs) next ∙ sym (mul_assoc r ax.extent (room rest)),
-      inv.1 ∙ ap positive next ∙ ap (λ b. b && positive rest) (le-leb 1 ax.extent some),
-      omega (arith, mul-le 1 1 r ax.extent inv.2 some),
-      c.if-room-gt1024.false,
-    )
 
 pub returns : goal.returns
 returns c =

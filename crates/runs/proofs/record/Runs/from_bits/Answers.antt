@@ -1,4 +1,4 @@
-use Rattle.std.proofs.Common.{rules, arith, ◌≡◌, ◌<◌, ◌≤◌, ◌+◌, ℕ, false, ap, ap₂, sym, refl, ◌∙◌, length, take, min, ltb, ◌&&◌, ◌||◌, length-set}
+use Rattle.std.proofs.Common.{rules, arith, ◌≡◌, ◌<◌, ◌≤◌, ◌+◌, ℕ, false, ap, ap₂, sym, refl, ◌∙◌, length, take, ◌||◌, length-set}
 use Rattle.std.proofs.lemmas.Bool.Decides.{nat_tests}
 use Rattle.std.specs.Iterator.Adapters.{enumerate_source}
 use Rattle.rows.specs.Runs.{in_some, runs_left}
@@ -21,12 +21,6 @@ loop-i-init c =
     above : (v : ℕ) → 128 ≤ v → up_to (bits_have c.args.bits) 127 v ≡ false
     above v h = grind (arith, nat_tests)
 
-pub bounds-pairs-i : goal.bounds-pairs-i
-bounds-pairs-i c =
-    let steps = c.in-Some.ensures.steps in
-    let kept = c.loop-i.invariant in
-    omega (arith, ap length steps.0, steps.1, kept.1, kept.2)
-
 pub loop-i-preserved : goal.loop-i-preserved
 loop-i-preserved c =
     let steps = c.in-Some.ensures.steps in
@@ -43,12 +37,3 @@ loop-i-preserved c =
           ∙ ap₂ (λ n runs. in_some (take n pairs) v || in_some runs v) (steps.1 ∙ kept.1) (sym steps.0)
           ∙ kept.3 v,
     )
-
-pub returns : goal.returns
-returns c v =
-    let none = c.in-None.ensures.steps.0.0 in
-    let kept = c.loop-i.invariant in
-    let pairs = c.loop-i.pairs in
-    let all = ap (λ runs. in_some (take c.loop-i.count pairs) v || in_some runs v) (sym none) ∙ kept.3 v in
-    let counted : min c.loop-i.count 64 ≡ c.loop-i.count = omega (arith, kept.2) in
-    ap (λ n. ltb v 128 && in_some (take n pairs) v) counted ∙ grind (arith, nat_tests, all)

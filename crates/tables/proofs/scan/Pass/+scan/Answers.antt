@@ -5,16 +5,11 @@ use Rattle.rules.proofs.RowSets.{sets_at}
 use Rattle.std.specs.Iterator.Adapters.{zip_first, zip_second}
 use Rattle.std.specs.Slice.Iter.{chunks_exact_rest, chunks_exact_size}
 use Rattle.tables.specs.Reads.{block, cell_fields}
-use Rattle.tables.proofs.Blocks.{no_axis, one_cell_left, first_row, extent_positive, block_size, block_scannable, one_scanned, next_part, none_left_over, whole_ok, size_some, blocks_long, block_closed, block_joined, blocks_done}
+use Rattle.tables.proofs.Blocks.{no_axis, one_cell_left, first_row, block_size, block_scannable, one_scanned, next_part, none_left_over, whole_ok, size_some, blocks_long, block_closed, block_joined, blocks_done}
 use Rattle.tables.specs.Scans.{Reaches, Swept, NotedHits}
 use Rattle.tables.specs.declared.found.Hits.TheVariants.{Nothing}
 use Rattle.tables.proofs.Sweeping.{Under, no_block}
 use Rattle.tables.proofs.scan.Pass.+scan.Goals as goal
-
-pub bounds-cells-0 : goal.bounds-cells-0
-bounds-cells-0 g t c =
-    let one : length c.args.cells.now ≡ 1 = ap length (one_cell_left c.args.axes.now c.args.cells.now c.in_default.ensures.cases c.requires.long) in
-    search rules
 
 pub visit-requires : goal.visit-requires
 visit-requires g t c =
@@ -33,9 +28,6 @@ offset_bounds-self-axis g t c =
 
 pub bounds-self-axis : goal.bounds-self-axis
 bounds-self-axis g t c = first_row _ _ _ _ _ (whole_ok _ _ _ _ _ _ c.in-Some.ensures.cases.0 c.requires)
-
-pub nonzero_div-size : goal.nonzero_div-size
-nonzero_div-size g t c = extent_positive _ _ _ _ _ (whole_ok _ _ _ _ _ _ c.in-Some.ensures.cases.0 c.requires)
 
 pub chunks_exact-requires : goal.chunks_exact-requires
 chunks_exact-requires g t c = omega (arith, size_some _ _ _ _ _ _ c.in-Some.ensures.cases.0 c.requires)

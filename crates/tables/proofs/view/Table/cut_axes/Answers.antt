@@ -1,4 +1,4 @@
-use Rattle.std.proofs.Common.{◌≡◌, ℕ, ◌+◌, ◌<◌, ◌≤◌, not, ◌&&◌, ◌||◌, [], ◌∷◌, ◌++◌, map, length, get_or, take, drop, set, Decides, sym, ap, ◌∙◌, subst, inl, inr, arith, rules, length-append, length-drop, take_all}
+use Rattle.std.proofs.Common.{◌≡◌, ℕ, ◌+◌, ◌<◌, not, ◌&&◌, ◌||◌, [], ◌∷◌, ◌++◌, map, length, get_or, take, drop, set, Decides, sym, ap, ◌∙◌, subst, arith, rules, length-append}
 use Rattle.rules.specs.Books.{sets, Loses}
 use Rattle.rules.proofs.RowSets.{sets_at}
 use Rattle.rules.specs.Writes.{Written}
@@ -60,16 +60,3 @@ loop-axis-preserved g c =
       row-at.2 ∙ ap (λ n. drop n marks) (sym next),
       subst (λ n. Written values new (map (λ q. q.field) (take n axes)) (length (map (λ q. q.field) (take n axes))) before c.replace-changed.new.rows (c.loop-axis.changed || c.replace-changed.result)) (sym next) done,
     )
-
-pub returns : goal.returns
-returns g c =
-    let values = g.R.Row.values in
-    let axes = c.args.self.now.axes.now in
-    let S = sets values c.args.rows.now in
-    let i = length c.loop-axis.yielded in
-    let inv = c.loop-axis.invariant in
-    let passed : length axes ≤ i = elim c.in-None.ensures.steps [
-      | inl none ↦ omega (arith, none.1.0, ap length inv.2, length-drop i axes)
-      | inr none ↦ omega (arith, none.1.0, ap length inv.3, length-drop i c.args.marks.now, c.args.self.now.few)
-    ] in
-    subst (λ qs. Written values (axes_left c.args.marks.now S S axes 0) (map (λ q. q.field) qs) (length (map (λ q. q.field) qs)) c.args.rows.now c.loop-axis.rows c.loop-axis.changed) (take_all i axes passed) inv.4
