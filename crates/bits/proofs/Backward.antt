@@ -60,7 +60,7 @@ front xs e =
     let few : length xs ≤ 4 = grind (arith, common_steps, e) in
     (few, λ j h l. ap (λ ys. slice_get ys (3 - j)) e ∙ place (length xs) (3 - j) l few ∙ ap Some (omega arith))
 
--- a run from the end of the numbers below 4: number j comes as item 3 - j
+-- calls from the end of the numbers below four give the greatest first: j stands behind those above it
 pub four_back : (p : Run back) → p.from.iter ≡ record { start = 0; end = 4 } → (p.len ≤ 4) × (p.whole ≡ true → p.len ≡ 4) × ((j : ℕ) → j < 4 → 3 - j < p.len → p.at (3 - j) ≡ Some j)
 unfolding YieldsRun
 four_back p from =
