@@ -21,8 +21,8 @@ part r i h =
     ∙ ap₂ (λ w d. bit (get_or r.words w 0) d) (div-mul-add i 64 k l) (mod-mul-add i 64 k l))
 
 -- the values of a row are counted word by word
-by_words : (r : Bits) → in_word r 0 + in_word r 1 + in_word r 2 + in_word r 3 ≡ how_many 256 (bits_have r)
-by_words r =
+pub sum_of_words : (r : Bits) → in_word r 0 + in_word r 1 + in_word r 2 + in_word r 3 ≡ how_many 256 (bits_have r)
+sum_of_words r =
     let p = bits_have r in
     let from : ℕ → ℕ = λ n. how_many 64 (λ k. p (n + k)) in
     let a3 : how_many 256 p ≡ from 192 + how_many 192 p = how_many_add 64 192 p in
@@ -42,8 +42,8 @@ four h (a ∷ b ∷ c ∷ d ∷ []) l = omega arith
 four h ws l = absurd (omega arith)
 
 -- the numbers in the words together are the values of the row
-pub sum_of_words : (r : Bits) → length r.words ≡ 4 → sum (map (λ w. how_many 64 (bit w)) r.words) ≡ how_many 256 (bits_have r)
-sum_of_words r l = four (λ w. how_many 64 (bit w)) r.words l ∙ by_words r
+pub sum_of_list : (r : Bits) → length r.words ≡ 4 → sum (map (λ w. how_many 64 (bit w)) r.words) ≡ how_many 256 (bits_have r)
+sum_of_list r l = four (λ w. how_many 64 (bit w)) r.words l ∙ sum_of_words r
 
 -- a value is the greatest where its place is the greatest of its word, and the words after it are empty
 pub greatest_at : (r : Bits) (i v : ℕ) → i < 4 → 64 * i ≤ v → v < 64 * i + 64 → GreatestOf (bit (get_or r.words i 0)) (v - 64 * i)

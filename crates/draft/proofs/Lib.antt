@@ -1,4 +1,5 @@
 pub mod AcceptedLines
+pub mod CellSteps
 pub mod Chains
 pub mod EntryRoom
 pub mod FieldTests
@@ -9,6 +10,8 @@ pub mod KeptFrames
 pub mod KeptTables
 pub mod LongerMemory
 pub mod Noting
+pub mod Overlaying
 pub mod Overlays
 pub mod PairLists
+pub mod PairSteps
 pub mod SoundDrafts

@@ -1,5 +1,7 @@
 // Entering the cells of the latest table.
 ghost use Rattle.std.specs.Prelude.{◌≡◌, ◌<◌, ◌≤◌, ◌++◌, filter_map, length};
+ghost use Rattle.rules.specs.Seen.{NotesBytes};
+ghost use Rattle.tables.specs.Reads.{cell_fields, table_scope};
 ghost use Rattle.draft.specs.Entries.{EntersCells, cell_lines, scope_so_far};
 ghost use Rattle.draft.specs.Lists.{distinct, marked_field, pairs};
 ghost use Rattle.draft.specs.Memory.{held};
@@ -8,10 +10,42 @@ ghost use Rattle.draft.specs.Reading.{Checked};
 use crate::fault::{DraftFault, Refused};
 use crate::memory::Memory;
 use crate::pairs::{Pairs, cell_of, marked_field};
-use crate::reading::{all_apart, all_known, any_bad_mark, write_from};
+use crate::reading::{all_known, any_bad_mark, write_from};
 use crate::state::Draft;
 use rows::Row;
-use tables::scope::Scope;
+use rules::marks::Seen;
+use tables::record::{Axis, Cell};
+
+// Notes the fields of cells, and says whether they are all new. A loop, since it goes over all cells
+// that were entered before, each time that cells are entered.
+fn note_cells(cells: &[Cell], seen: &mut Seen) -> bool
+    ensures { NotesBytes (cell_fields cells.now) 256 seen.old seen.new result }
+{
+    for cell in cells {
+        if let Cell::Field(field) = *cell {
+            if !seen.note(field) {
+                return false;
+            }
+        }
+    }
+    true
+}
+
+// Whether x, the axes, the fields among the cells, and those among the pairs of a list are all
+// different fields.
+fn scope_is_apart(x: u8, axes: &[Axis], cells: &[Cell], list: &[u8]) -> bool
+    ensures { result ≡ distinct (table_scope x axes.now cells.now ++ filter_map marked_field (pairs list.now)) }
+{
+    let mut seen = Seen::none();
+    seen.note(x);
+    if !seen.note_all(axes.iter().map(|axis| axis.field), 256) {
+        return false;
+    }
+    if !note_cells(cells, &mut seen) {
+        return false;
+    }
+    seen.note_all(Pairs(list).filter_map(marked_field), 256)
+}
 
 impl Draft {
     // Whether the fields among new cells are different from each other and from those that the
@@ -27,8 +61,7 @@ impl Draft {
         let axes = &head.axes[0..axis_count];
         let next = self.filled;
         let first = head.first.min(next);
-        let scope = Scope::of(head.x, axes, &memory.cells[first..next]);
-        all_apart(scope.chain(Pairs(list).filter_map(marked_field)))
+        scope_is_apart(head.x, axes, &memory.cells[first..next], list)
     }
 
     // What is wrong with entering cells, if anything is.

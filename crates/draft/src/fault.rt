@@ -23,7 +23,16 @@ pub enum DraftFault {
     Twice,
 }
 
-// The number that the refusal is known by.
+impl DraftFault {
+    // The number that the refusal is known by.
+    pub fn number(self) -> u8
+        ensures { result ≡ fault_number self }
+    {
+        self.into()
+    }
+}
+
+// The same number, as a conversion.
 impl From<DraftFault> for u8 {
     ghost from_gives = { λ fault number. number ≡ fault_number fault };
 

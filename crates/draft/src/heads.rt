@@ -1,18 +1,18 @@
 // Entering the head of a table.
-ghost use Rattle.std.specs.Prelude.{◌≡◌, ◌≤◌, map, length};
+ghost use Rattle.std.specs.Prelude.{◌≡◌, ◌≤◌, ◌∷◌, map, length};
 ghost use Rattle.tables.specs.Reads.{room};
 ghost use Rattle.draft.specs.Entries.{EntersHead, head_lines};
-ghost use Rattle.draft.specs.Lists.{axis_of, four_axes, pair_count, pairs};
+ghost use Rattle.draft.specs.Lists.{all_below, axis_of, distinct, first_field, four_axes, pair_count, pairs};
 ghost use Rattle.draft.specs.Memory.{held};
 ghost use Rattle.draft.specs.Reading.{Checked, IsRoomOf};
 
 use crate::fault::{DraftFault, Refused};
 use crate::memory::Memory;
 use crate::pairs::{Pairs, axis_of, first_field};
-use crate::reading::{all_apart, all_known, write_from};
+use crate::reading::{all_known, write_from};
 use crate::state::Draft;
 use rows::Row;
-use std::iter::once;
+use rules::marks::Seen;
 use tables::reading::room_of;
 use tables::record::{Axis, Head};
 
@@ -49,6 +49,21 @@ fn head_room(list: &[u8]) -> Option<usize>
     room_of(&axes[0..count])
 }
 
+// Whether x and the axes are fields below n.
+fn head_is_known(x: u8, list: &[u8], n: usize) -> bool
+    ensures { result ≡ all_below n (x ∷ map first_field (pairs list.now)) }
+{
+    (x as usize) < n && all_known(Pairs(list).map(first_field), n)
+}
+
+// Whether x and the axes are all different fields.
+fn head_is_apart(x: u8, list: &[u8]) -> bool
+    ensures { result ≡ distinct (x ∷ map first_field (pairs list.now)) }
+{
+    let mut seen = Seen::none();
+    seen.note(x) && seen.note_all(Pairs(list).map(first_field), 256)
+}
+
 impl Draft {
     // How many cells the table will have, or what is wrong with entering its head.
     fn room_for_head<R: Row>(
@@ -70,10 +85,10 @@ impl Draft {
         {
             return Err(DraftFault::Full);
         }
-        if !all_known(once(x).chain(Pairs(list).map(first_field)), self.fields) {
+        if !head_is_known(x, list, self.fields) {
             return Err(DraftFault::NoSuchField);
         }
-        if !all_apart(once(x).chain(Pairs(list).map(first_field))) {
+        if !head_is_apart(x, list) {
             return Err(DraftFault::Twice);
         }
         Ok(room)

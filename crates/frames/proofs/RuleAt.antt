@@ -9,7 +9,7 @@ use Rattle.frames.specs.declared.record.Frames.{Frames}
 
 module _ {X : Type 0} (made : X → Rule) where
   -- the one made from what stands at the place
-  rule_made : (xs : List X) (k : ℕ) (d : X) → k < length xs → rule_at (map made xs) k ≡ made (get_or xs k d)
+  pub rule_made : (xs : List X) (k : ℕ) (d : X) → k < length xs → rule_at (map made xs) k ≡ made (get_or xs k d)
   rule_made [] k d h = absurd (omega arith)
   rule_made (x ∷ xs) zero d h = refl
   rule_made (x ∷ xs) (suc k) d h = rule_made xs k d (omega arith)

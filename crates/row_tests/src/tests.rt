@@ -72,6 +72,7 @@ fn pairs_hold<R: OrderedRow>(rt: &impl Abort) {
 // One kind through all of it.
 fn drives<R: OrderedRow>(rt: &impl Abort, span: usize) {
     assert_eq!(rt; R::SPAN, span);
+    assert_eq!(rt; R::value_count(), span);
     ranges_hold::<R>(rt);
     pairs_hold::<R>(rt);
 }

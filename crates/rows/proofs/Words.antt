@@ -1,12 +1,12 @@
 -- What the operations on words do to their binary digits. Assumes nothing.
-use Rattle.std.proofs.Common.{◌≡◌, ℕ, zero, suc, ◌+◌, ◌-◌, ◌*◌, ◌/◌, ◌%◌, ◌^◌, ◌<◌, ◌≤◌, Bool, true, false, not, ◌&&◌, ◌||◌, eqb, ltb, sym, refl, ap, ◌∙◌, subst, ap₂, ⊎_elim, lt_of_lt_of_le, mod-lt, mod-eq_of_lt, one-mul, div-one, add-one, one-add, arith, lit<, pow_pos, pow_mono, pow-add, shr-shr}
+use Rattle.std.proofs.Common.{◌≡◌, ℕ, zero, suc, ◌+◌, ◌-◌, ◌*◌, ◌/◌, ◌%◌, ◌^◌, ◌<◌, ◌≤◌, Bool, true, false, not, ◌&&◌, ◌||◌, eqb, ltb, sym, refl, ap, ◌∙◌, subst, ap₂, ⊎_elim, lt_of_lt_of_le, mod-lt, mod-eq_of_lt, eq-zero-or-pos, one-mul, div-one, add-one, one-add, arith, lit<, pow_pos, pow_mono, pow-add, shr-shr}
 use native.Mathlib.Nat.{div-eq_of_lt, mul-mod_left}
 use lib.Arith.{lt-one}
 use lib.Bits.{bit_and, bit_or, bit_xor, and_mask, xor_add_and, and_shr, or_shr, xor_shr, and_mod, or_mod, xor_mod}
 use lib.Count.{ones, ones_cat, count_leading_zeros, leading_top, count_trailing_zeros, under}
 use lib.Pow.{ones_split, ones_lt, high, low, split, shl-shr, field, mod-mod-pow}
 use Rattle.std.proofs.lemmas.Nat.{one_shl, pow_below, div_below, le-div, shr_below}
-use Rattle.std.proofs.lemmas.Bool.{cases_lt, cases_order, lt-ltb, le-ltb, eq-eqb, ne_eqb}
+use Rattle.std.proofs.lemmas.Bool.{cases_lt, cases_order, lt-ltb, le-ltb, eq-eqb, ne_eqb, both_ways}
 use Rattle.rows.specs.Values.{how_many}
 use Rattle.rows.specs.Words.{bit}
 use Rattle.rows.proofs.Counts.{how_many_same, one_if}
@@ -161,6 +161,14 @@ top w n p l =
       is_set = ap (λ m. eqb (m % 2) 1) one;
       bound = λ k h. bit_above n (suc j) k t.3 h;
     }
+
+-- a word with no digit set is 0
+pub none_set : (w n : ℕ) → n < 2 ^ w → ((k : ℕ) → k < w → bit n k ≡ false) → n ≡ 0
+none_set w n l none =
+    ⊎_elim
+    (λ e. e)
+    (λ p. let t = top w n p l in absurd (both_ways (bit n t.place) (none t.place (omega (arith, t.told))) t.is_set))
+    (eq-zero-or-pos n)
 
 bit_first : (n : ℕ) → bit n 0 ≡ eqb (n % 2) 1
 unfolding bit

@@ -20,6 +20,13 @@ pub trait Row: Copy {
 
     ghost SPAN: { ℕ };
 
+    // The span, for code that asks it of a call.
+    fn value_count() -> usize
+        ensures { result ≡ SPAN }
+    {
+        Self::SPAN
+    }
+
     // All values from lo to hi; none if lo is above hi, or hi is not below the span.
     fn make(lo: u8, hi: u8) -> Self
         ensures { Same (values result) (from_to SPAN lo hi) };
@@ -48,8 +55,9 @@ pub trait Row: Copy {
     fn minus(self, other: Self) -> Self
         ensures { Same (values result) (less (values self) (values other)) }
     {
+        let last = (Self::SPAN - 1) as u8;
         let mut left = self;
-        for v in 0..=u8::MAX {
+        for v in 0..=last {
             if other.has(v) {
                 left = left.without(v);
             }

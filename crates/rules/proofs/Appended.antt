@@ -1,8 +1,9 @@
 -- The rules of two books, one after the other. Assumes nothing.
-use Rattle.std.proofs.Common.{Some, ◌≡◌, ℕ, zero, suc, ◌+◌, ◌<◌, ◌≤◌, Bool, cond, ◌&&◌, leb, List, [], ◌∷◌, ◌++◌, length, get_or, Result, sym, refl, ap, ◌∙◌, subst, ap₂, ⊎_elim, suc-add, zero-add, arith, length-append}
+use Rattle.std.proofs.Common.{Some, ◌≡◌, ℕ, zero, suc, ◌+◌, ◌<◌, ◌≤◌, min, Bool, cond, ◌&&◌, leb, List, [], ◌∷◌, ◌++◌, length, get_or, Result, sym, refl, ap, ◌∙◌, subst, ap₂, ⊎_elim, suc-add, zero-add, arith, length-append}
 use Rattle.std.proofs.lemmas.Bool.{cases_lt, lt-ltb, le-ltb, le-leb}
+use Rattle.std.proofs.lemmas.Bool.Decides.{nat_tests}
 use Rattle.rows.specs.Values.{Values}
-use Rattle.rules.specs.Books.{rule_at, told, told_size, told_field, Narrows}
+use Rattle.rules.specs.Books.{rule_at, told, told_count, told_size, told_field, Narrows}
 use Rattle.rules.specs.Joining.{Placed}
 use Rattle.rules.specs.Rules.{Rule}
 use Rattle.rules.specs.declared.pair.Place.{Place}
@@ -17,6 +18,10 @@ rule_first (q ∷ qs) rs (suc k) h = rule_first qs rs k (omega arith)
 rule_second : (qs rs : List Rule) (k : ℕ) → rule_at (qs ++ rs) (length qs + k) ≡ rule_at rs k
 rule_second [] rs k = ap (rule_at rs) (zero-add k)
 rule_second (q ∷ qs) rs k = ap (rule_at (q ∷ (qs ++ rs))) (suc-add (length qs) k) ∙ rule_second qs rs k
+
+-- the told count of both
+pub count_both : (qs rs : List Rule) → min (told_count qs + told_count rs) 1025 ≡ told_count (qs ++ rs)
+count_both qs rs = let long = length-append qs rs in grind (arith, nat_tests)
 
 -- the size told of a rule that is there, and past the end
 size_at : (qs : List Rule) (k : ℕ) → k < length qs → k ≤ 1023 → told_size qs k ≡ told (length (rule_at qs k).scope)

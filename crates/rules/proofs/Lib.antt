@@ -10,6 +10,7 @@ pub mod Loops
 pub mod Losing
 pub mod MadeRules
 pub mod NewFields
+pub mod Noting
 pub mod RowSets
 pub mod Taking
 pub mod Telling

@@ -8,7 +8,16 @@ pub enum NarrowFault {
     Unfit,
 }
 
-// The number that the refusal is known by.
+impl NarrowFault {
+    // The number that the refusal is known by.
+    pub fn number(self) -> u8
+        ensures { result ≡ fault_number self }
+    {
+        self.into()
+    }
+}
+
+// The same number, as a conversion.
 impl From<NarrowFault> for u8 {
     ghost from_gives = { λ fault number. number ≡ fault_number fault };
 

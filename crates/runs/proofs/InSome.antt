@@ -1,10 +1,11 @@
 -- The values in the first runs of a list. Assumes nothing.
-use Rattle.std.proofs.Common.{◌≡◌, ℕ, zero, suc, ◌+◌, ◌<◌, ◌≤◌, min, Bool, true, false, ◌&&◌, ◌||◌, ltb, leb, List, [], ◌∷◌, length, get_or, take, set, sym, refl, ap, ◌∙◌, ap₂, add-one, arith, length-set, get_or-set_same}
+use Rattle.std.proofs.Common.{◌≡◌, ℕ, zero, suc, ◌+◌, ◌<◌, ◌≤◌, min, Bool, true, false, ◌&&◌, ◌||◌, ltb, leb, List, [], ◌∷◌, length, get_or, take, set, sym, refl, ap, ◌∙◌, ap₂, ⊎_elim, add-one, arith, length-set, get_or-set_same}
+use Rattle.std.proofs.lemmas.Bool.{cases_lt, cases_eq, leb-true, and_parts}
 use Rattle.std.proofs.lemmas.Bool.Decides.{nat_tests}
 use Rattle.rows.specs.declared.run.Run.{Run}
-use Rattle.rows.specs.Runs.{in_run, in_some, runs_from}
+use Rattle.rows.specs.Runs.{RunAfter, in_run, in_some, runs_from}
 use Rattle.rows.proofs.RunLists.{runs_cover, runs_few, runs_from_wider}
-use Rattle.rows.specs.Values.{Values, Same, either, from_to}
+use Rattle.rows.specs.Values.{Values, Same, either, from_to, up_to}
 
 or_false : (b : Bool) → (b || false) ≡ b
 or_false true = refl
@@ -39,6 +40,33 @@ joins old made joined ps i run top within stands cut_at before new both v =
   where
     cut_run : (b : Bool) → ((ltb v 128 && b) || from_to 256 run.low top v) ≡ (ltb v 128 && (b || in_run run v))
     cut_run b = grind (arith, nat_tests)
+
+-- the values in the runs so far and in the next one are those below the place two past its end
+pub next_joins : (p : Values) (from : ℕ) (run : Run) → RunAfter p from run → (v : ℕ)
+    → ((p v && ltb v from) || in_run run v) ≡ (p v && ltb v (run.high + 2))
+next_joins p from run next v =
+    let above = next.above in
+    let forward = next.forward in
+    ⊎_elim
+    (λ before.
+    ⊎_elim
+    (λ old. grind (arith, nat_tests))
+    (λ gap. let none = next.gap v gap before in grind (arith, nat_tests))
+    (cases_lt v from))
+    (λ after.
+    ⊎_elim
+    (λ inner. let some = next.filled v after (omega arith) in grind (arith, nat_tests))
+    (λ past. ⊎_elim
+    (λ end. let none : p v ≡ false = ap p end ∙ next.ends in grind (arith, nat_tests))
+    (λ beyond. grind (arith, nat_tests))
+    (cases_eq v (run.high + 1)))
+    (cases_lt v (run.high + 1)))
+    (cases_lt v run.low)
+
+-- a run of a set cut at 127 ends there or before
+pub ends : {p : Values} (q : Values) (from : ℕ) (run : Run) → Same p (up_to q 127) → RunAfter p from run → run.high ≤ 127
+ends q from run same next =
+    leb-true run.high 127 (and_parts (q run.high) (leb run.high 127) (sym (same run.high) ∙ next.filled run.high next.forward (omega arith))).1
 
 -- writing the next run at place i, after those that stand before it
 pub placed : (ps : List Run) (i : ℕ) (run : Run) (rest : List Run) (v : ℕ) → i < length ps

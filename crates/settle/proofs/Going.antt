@@ -22,6 +22,13 @@ pub record Going {R : Type 0} (values : R → Values) (span : ℕ) (rules : List
   pub beyond : Beyond n before after
 
 module _ {R : Type 0} (values : R → Values) (span : ℕ) (rules : List Rule) (n : ℕ) (before : List R) where
+  pub going_none : Going values span rules n 0 before before
+  going_none = record {
+    onward = λ r S'' R. let e : r ≡ 0 + r = omega arith in subst (λ k. Rounds n rules (sets values before) k S'') e R;
+    spent = omega arith;
+    beyond = λ f d l. refl;
+  }
+
   -- a round that changed a set took a value
   pub passed_less : ((r : R) (v : ℕ) → values r v ≡ true → v < span) → (mid after : List R) → Passed values rules n mid after true → total span n (sets values after) < total span n (sets values mid)
   passed_less law mid after step =
@@ -49,3 +56,7 @@ module _ {R : Type 0} (values : R → Values) (span : ℕ) (rules : List Rule) (
       ending : SomeEmpty n (sets values after) ⊎ (changed ≡ false) → SomeEmpty n (sets values after) ⊎ SameSets n (sets values mid) (sets values after)
       ending (inl some) = inl some
       ending (inr e) = inr (step.still e)
+
+  -- no round at all
+  pub rounded_at_once : SomeEmpty n (sets values before) → Rounded values rules n before before 0
+  rounded_at_once some = record { made = inl (some, refl); stays = λ s. s; beyond = λ f d l. refl }

@@ -1,12 +1,13 @@
 -- One round over rows, rule by rule. Assumes nothing.
-use Rattle.std.proofs.Common.{◌≡◌, ℕ, zero, suc, ◌+◌, ◌<◌, ◌≤◌, Bool, true, false, ◌||◌, ◌⊎◌, List, [], ◌∷◌, length, drop, sym, ◌∙◌, inl, inr, ⊎_elim, add-one, arith}
-use Rattle.std.proofs.lemmas.Bool.{cases_Bool, both_ways, or_cases, or_parts}
+use Rattle.std.proofs.Common.{◌≡◌, ℕ, zero, suc, ◌+◌, ◌<◌, ◌≤◌, Bool, true, false, ◌||◌, ◌⊎◌, List, [], ◌∷◌, length, drop, sym, refl, ◌∙◌, inl, inr, ⊎_elim, add-one, arith, drop_of_length-le}
+use Rattle.std.proofs.lemmas.Bool.{cases_Bool, false≢true, both_ways, or_cases, or_parts}
 use Rattle.std.proofs.lemmas.Bool.Decides.{nat_tests}
 use Rattle.rows.specs.Values.{Values}
 use Rattle.rules.specs.Books.{sets, rule_at, told_count, Narrowing, FitsRule}
 use Rattle.rules.specs.Rules.{Sets, Rule, LawfulRule, Lawful, Narrowed}
 use Rattle.rules.proofs.Telling.{place_by_each}
-use Rattle.settle.specs.Passes.{Beyond}
+use Rattle.settle.specs.Answers.{FitsBook}
+use Rattle.settle.specs.Passes.{Passed, Beyond}
 use Rattle.settle.specs.Rounds.{Round}
 use Rattle.settle.proofs.Rounding.{in_or_not, narrowed_shrinks}
 
@@ -15,9 +16,15 @@ pub counted : (rules : List Rule) (count : ℕ) → length rules ≤ 1024 → co
 counted rules count few told = grind (arith, nat_tests)
 
 -- every rule of a lawful book can be narrowed
-pub fits_at : (rules : List Rule) (n rows k : ℕ) → Lawful n rules → n ≤ rows → k < length rules → FitsRule (rule_at rules k) k n rows
-fits_at rules n rows k law enough l =
+pub lawful_fits : (rules : List Rule) (n rows k : ℕ) → Lawful n rules → n ≤ rows → k < length rules → FitsRule (rule_at rules k) k n rows
+lawful_fits rules n rows k law enough l =
     record { reach = omega (arith, law.few); enough = enough; lawful = place_by_each (LawfulRule n) rules law.each k l }
+
+-- every rule of a book that fits can be narrowed
+pub fits_at : (rules : List Rule) (n rows count rows' k : ℕ) → FitsBook rules n rows → count ≡ told_count rules → rows' ≡ rows → k < count → FitsRule (rule_at rules k) k n rows'
+fits_at rules n rows count rows' k fits told e l =
+    let long = counted rules count fits.lawful.few told in
+    lawful_fits rules n rows' k fits.lawful (omega (arith, fits.enough)) (omega arith)
 
 -- a rule in front of what is left of the round
 round_more : (rules : List Rule) (k : ℕ) (S S' S'' : Sets) → k < length rules → Narrowed (rule_at rules k) S S' → Round (drop (suc k) rules) S' S'' → Round (drop k rules) S S''
@@ -74,6 +81,10 @@ module _ {R : Type 0} (values : R → Values) (r : Rule) (n : ℕ) (mid after : 
       go (inr p) (inr q) = q ∙ sym p
 
 module _ {R : Type 0} (values : R → Values) (rules : List Rule) (n : ℕ) (before : List R) where
+  pub so_far_none : SoFar values rules n 0 before before false
+  so_far_none =
+      record { onward = λ S'' R. R; shrinks = λ f v e. e; some = λ e. absurd (false≢true e); none = λ e f v. refl; beyond = λ f d l. refl }
+
   pub so_far_more : (k : ℕ) (mid after : List R) (changed b : Bool) → k < length rules → LawfulRule n (rule_at rules k) → SoFar values rules n k before mid changed
       → Narrowing values (rule_at rules k) mid after b → SoFar values rules n (k + 1) before after (changed || b)
   so_far_more k mid after changed b l law so step =
@@ -93,4 +104,13 @@ module _ {R : Type 0} (values : R → Values) (rules : List Rule) (n : ℕ) (bef
             (or_cases changed b e);
         none = λ e f v. let both = or_parts changed b e in unchanged values (rule_at rules k) n mid after b law step both.1 f v ∙ so.none both.0 f v;
         beyond = λ f d out. step.others f d (λ i. let low = law.below f i in omega arith) ∙ so.beyond f d out;
+      }
+
+  pub so_far_all : (k : ℕ) (after : List R) (changed : Bool) → length rules ≤ k → SoFar values rules n k before after changed → Passed values rules n before after changed
+  so_far_all k after changed done so =
+      record {
+        round = so.onward (sets values after) (let over : drop k rules ≡ [] = drop_of_length-le rules done in rw over (λ f v. refl));
+        moved = λ e same. let gone = so.some e in false≢true (sym gone.4 ∙ same gone.0 gone.1 gone.2 ∙ gone.3);
+        still = λ e f v l. so.none e f v;
+        beyond = so.beyond;
       }

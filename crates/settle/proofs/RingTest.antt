@@ -1,5 +1,5 @@
 -- Labels from the last rule to the first tell whether rules have a ring. Assumes nothing.
-use Rattle.std.proofs.Common.{◌≡◌, ℕ, zero, suc, ◌<◌, ◌≤◌, true, false, cond, List, [], ◌∷◌, map, length, drop, sym, refl, ap, ◌∙◌, subst, ap₂, inl, inr, arith}
+use Rattle.std.proofs.Common.{◌≡◌, ℕ, zero, suc, ◌<◌, ◌≤◌, true, false, cond, List, [], ◌∷◌, map, length, drop, sym, refl, ap, ◌∙◌, subst, ap₂, inl, inr, arith, drop_of_length-le}
 use Rattle.rules.specs.Books.{rule_at}
 use Rattle.rules.specs.Rings.{Ring}
 use Rattle.rules.specs.Rules.{Rule, In, Distinct, LawfulRule, Lawful}
@@ -9,6 +9,12 @@ use Rattle.rules.proofs.Lists.{map_same}
 use Rattle.rules.proofs.Telling.{place_by_each}
 use Rattle.settle.specs.Labels.{label_of, Labelled, Joins}
 use Rattle.settle.specs.declared.labels.Labels.{Labels}
+
+-- with no rule yet, each field has its own label
+pub labels_start : (rules : List Rule) (k : ℕ) (kept : Labels) → length rules ≤ k → Labelled kept (λ f. f) → Tree (drop k rules) × Labelled kept (labels (drop k rules))
+labels_start rules k kept done own =
+    let over : drop k rules ≡ [] = drop_of_length-le rules done in
+    subst (λ rs. Tree rs × Labelled kept (labels rs)) (sym over) (tt, own)
 
 rules_from : (rules : List Rule) (j : ℕ) → j < length rules → drop j rules ≡ rule_at rules j ∷ drop (suc j) rules
 rules_from [] j l = absurd (omega arith)

@@ -19,7 +19,19 @@ use Rattle.rules.proofs.Telling.{unlawful_size, whole_size, field_is, field_larg
 use Rattle.settle.specs.Labels.{replaced, MeetsLabels}
 use Rattle.settle.proofs.Rounding.{in_or_not}
 
--- what is told of a rule of a lawful book is its scope
+-- what is told of a lawful rule is its scope
+module _ (rules : List Rule) (k : ℕ) (reach : k ≤ 1023) (law : LawfulRule 254 (rule_at rules k)) where
+  pub size_is : told_size rules k ≡ length (rule_at rules k).scope
+  size_is = whole_size rules k 254 reach (omega arith) (λ e. unlawful_size rules k 254 reach (omega arith) (inr e) law)
+
+  pub field_told : (place : ℕ) → place < length (rule_at rules k).scope → told_field rules k place ≡ get_or (rule_at rules k).scope place 0
+  field_told place within =
+      ⊎_elim
+      (field_is rules k 254 reach (omega arith) place within)
+      (λ large. absurd (let far = field_large rules k 254 reach (omega arith) place within large in omega (arith, law.below _ (in_at (rule_at rules k).scope place 0 within))))
+      (cases_lt (told_field rules k place) 254)
+
+-- and so it is of each rule of a lawful book
 module _ (rules : List Rule) (n k : ℕ) (known : n ≤ 254) (lawful : Lawful n rules) (there : k < length rules) where
   pub rule_lawful : LawfulRule n (rule_at rules k)
   rule_lawful = place_by_each (LawfulRule n) rules lawful.each k there
@@ -27,23 +39,22 @@ module _ (rules : List Rule) (n k : ℕ) (known : n ≤ 254) (lawful : Lawful n 
   reach : k ≤ 1023
   reach = omega (arith, lawful.few)
 
-  pub size_is : told_size rules k ≡ length (rule_at rules k).scope
-  size_is = whole_size rules k n reach known (λ e. unlawful_size rules k n reach known (inr e) rule_lawful)
+  wide : LawfulRule 254 (rule_at rules k)
+  wide = record { names_some = rule_lawful.names_some; below = λ f i. omega (arith, rule_lawful.below f i); apart = rule_lawful.apart }
 
-  pub field_told : (place : ℕ) → place < length (rule_at rules k).scope → told_field rules k place ≡ get_or (rule_at rules k).scope place 0
-  field_told place within =
-      ⊎_elim
-      (field_is rules k n reach known place within)
-      (λ large. absurd (let far = field_large rules k n reach known place within large in omega (arith, rule_lawful.below _ (in_at (rule_at rules k).scope place 0 within))))
-      (cases_lt (told_field rules k place) n)
+  pub book_size : told_size rules k ≡ length (rule_at rules k).scope
+  book_size = size_is rules k reach wide
+
+  pub book_field : (place : ℕ) → place < length (rule_at rules k).scope → told_field rules k place ≡ get_or (rule_at rules k).scope place 0
+  book_field = field_told rules k reach wide
 
   -- the labels of its fields, place by place
   pub labels_told : (L : ℕ → ℕ) (size : ℕ) → size ≡ told_size rules k → map L (rule_at rules k).scope ≡ map (λ place. L (told_field rules k place)) (range_with_len 0 size)
   labels_told L size told =
       let scope = (rule_at rules k).scope in
-      let long : length scope ≡ size = omega (arith, size_is) in
+      let long : length scope ≡ size = omega (arith, book_size) in
       fill_by_all (λ place. L (told_field rules k place)) (map L scope) size 0 (rw length-map long)
-      (λ place l. get_or-map L scope place 0 0 (omega arith) ∙ ap L (sym (field_told place (omega arith))))
+      (λ place l. get_or-map L scope place 0 0 (omega arith) ∙ ap L (sym (book_field place (omega arith))))
 
 -- a list with one field more, which is not in it
 one_more_apart : (xs : List ℕ) (c : ℕ) → Distinct xs → (In c xs → ⊥) → Distinct (xs ++ c ∷ [])
@@ -119,3 +130,9 @@ merged L (g ∷ gs) met noted some f = ap (λ b. cond b (L g) (L f)) (noted (L f
     go true e true = refl
     go true e false = sym (eqb-true (L f) (L g) e)
     go false e rest = refl
+
+-- a scope of one field joins nothing
+pub merge_one_field : (L : ℕ → ℕ) (scope : List ℕ) → length scope ≤ 1 → (f : ℕ) → merge L scope f ≡ L f
+merge_one_field L [] few f = refl
+merge_one_field L (g ∷ []) few f = refl
+merge_one_field L (g ∷ (h ∷ hs)) few f = absurd (omega arith)

@@ -19,6 +19,11 @@ use Rattle.tables.proofs.Sweeping.{Under, closed_block, all_blocks, next_block}
 abbrev pub no_axis : Axis
 no_axis = record { field = 0; extent = 0 }
 
+-- a list that has a first axis
+pub first_axis : (axes : List Axis) → (length axes ≡ 0 → ⊥) → axes ≡ get_or axes 0 no_axis ∷ drop 1 axes
+first_axis [] some = absurd (some refl)
+first_axis (ax ∷ axes) some = refl
+
 -- without an axis there is one cell
 pub one_cell_left : (axes : List Axis) (cells : List Cell) → length axes ≡ 0 → length cells ≡ room axes → cells ≡ get_or cells 0 (Constant 0) ∷ []
 one_cell_left [] [] none long = absurd (omega arith)

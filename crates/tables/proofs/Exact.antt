@@ -143,6 +143,10 @@ module _ (S : Sets) (x : ℕ) (axes : List Axis) (cells : List Cell) (long : len
   pub no_hits : {f v : ℕ} → Tells Nothing (Hit S (S x) (Reaches S axes cells)) → Supported S (lookup_rule x axes cells) f v → ⊥
   no_hits none s = let F = from_line s in none F.ds F.c (line_hits F)
 
+  -- where a field cell has no value, nothing is supported
+  pub empty_cell : {f v : ℕ} (g : ℕ) → In g (cell_fields cells) → ((w : ℕ) → S g w ≡ false) → Supported S (lookup_rule x axes cells) f v → ⊥
+  empty_cell g h none s = both_ways (S g (s.line g)) (none (s.line g)) (s.inside g (cell_in_scope x axes cells g h))
+
 -- ---- the field cells
 
 -- what is left of the field cell f: where it is the only hit, what it shares with x

@@ -18,7 +18,7 @@ use Rattle.tables.specs.declared.record.Cell.TheVariants.{Constant, Field}
 use Rattle.tables.specs.Left.{axes_left, cell_left, table_left, hit_fields, cut_scope}
 use Rattle.tables.specs.Reads.{room, cell_fields, table_scope, lookup_rule}
 use Rattle.tables.specs.declared.found.Rests.{Rests}
-use Rattle.tables.specs.Scans.{unmarked, Reaches, Hit, Tells, Swept}
+use Rattle.tables.specs.Scans.{unmarked, Reaches, Hit, Tells, Swept, Scannable}
 use Rattle.tables.proofs.Exact.{axis_at, cell_new, no_hits, cell_exact, cell_exact_back, x_exact, x_exact_back, axis_exact, axis_exact_back}
 use Rattle.tables.proofs.Lines.{axis_fields, reached_field}
 use Rattle.tables.proofs.Picking.{cell_in_scope}
@@ -119,6 +119,18 @@ fewer_in xs ys zs sub f h = ⊎_elim (in_first xs ys f) (λ k. in_second xs ys f
 fewer_apart : (xs ys zs : List ℕ) → ((f : ℕ) → In f zs → In f ys) → Distinct zs → Distinct (xs ++ ys) → Distinct (xs ++ zs)
 fewer_apart [] ys zs sub few apart = few
 fewer_apart (x ∷ xs) ys zs sub few apart = (λ k. apart.0 (fewer_in xs ys zs sub x k), fewer_apart xs ys zs sub few apart.1)
+
+module _ {R : Type 0} (values : R → Values) (x : ℕ) (axes : List Axis) (cells : List Cell) (before : List R) (fits : Scannable 0 axes cells (length before)) (below : x < length before)
+    (apart : Distinct (table_scope x axes cells)) where
+  -- every field of the table has its row
+  pub all_own : OwnRows (table_scope x axes cells) (length before)
+  all_own = record {
+    below = λ f h. elim h [
+      | inl e ↦ subst (λ u. u < length before) (sym e) below
+      | inr k ↦ ⊎_elim (fits.axis_rows f) (fits.cell_rows f) (in_either (axis_fields axes) (cell_fields cells) f k)
+    ];
+    distinct = apart;
+  }
 
 module _ {R : Type 0} (values : R → Values) (x : ℕ) (axes : List Axis) (cells : List Cell) (before : List R) (long : length cells ≡ room axes) (own : OwnRows (table_scope x axes cells) (length before)) where
   -- no value where nothing is supported

@@ -1,5 +1,5 @@
 -- What is told of a table's scope, by an iterator that gives its fields. Assumes nothing.
-use Rattle.std.proofs.Common.{◌≡◌, ℕ, ◌+◌, ◌≤◌, Bool, true, false, List, ◌∷◌, map, length, get_or, Option, Decides, sym, refl, ap, ◌∙◌, arith}
+use Rattle.std.proofs.Common.{◌≡◌, ℕ, suc, ◌+◌, ◌≤◌, Bool, true, false, List, [], ◌∷◌, ◌++◌, map, length, slice_get, get_or, Option, Decides, sym, refl, ap, ◌∙◌, arith}
 use Rattle.std.proofs.lemmas.Bool.{false≢true}
 use Rattle.std.proofs.lemmas.Bool.Decides.{nat_tests}
 use Rattle.std.proofs.lemmas.Iterator.{YieldsList}
@@ -47,3 +47,18 @@ field_told s u fs place r is ran byte =
     ap (λ o. unwrap_or o 255) (sym (option_map_id r) ∙ nth_from_yields_List r u place ran (gives s fs is)) ∙ unwrap_or-slice_get fs place 255
     in
     grind (arith, nat_tests)
+
+-- what stands behind the first part of a list
+past : (xs ys : List ℕ) (k : ℕ) → slice_get (xs ++ ys) (length xs + k) ≡ slice_get ys k
+past [] ys k =
+    let here : 0 + k ≡ k = omega arith in
+    ap (λ i. slice_get ys i) here
+past (x ∷ xs) ys k =
+    let next : length (x ∷ xs) + k ≡ suc (length xs + k) = omega arith in
+    ap (λ i. slice_get (x ∷ (xs ++ ys)) i) next ∙ past xs ys k
+
+-- the fields of a scope behind x and those of the axes
+pub behind : (x : ℕ) (axes cells : List ℕ) (k : ℕ) → slice_get (x ∷ (axes ++ cells)) (1 + length axes + k) ≡ slice_get cells k
+behind x axes cells k =
+    let next : 1 + length axes + k ≡ suc (length axes + k) = omega arith in
+    ap (λ i. slice_get (x ∷ (axes ++ cells)) i) next ∙ past axes cells k

@@ -1,7 +1,7 @@
 -- The steps over the axes and cells of a table, one at a time. Assumes nothing.
-use Rattle.std.proofs.Common.{◌≡◌, ℕ, zero, suc, ◌+◌, ◌*◌, ◌<◌, ◌≤◌, true, false, ◌&&◌, leb, ◌⊎◌, List, [], ◌∷◌, ◌++◌, map, length, get_or, drop, sym, refl, ap, ◌∙◌, subst, inl, inr, ⊎_elim, mul_assoc, arith}
+use Rattle.std.proofs.Common.{◌≡◌, ℕ, zero, suc, ◌+◌, ◌-◌, ◌*◌, ◌<◌, ◌≤◌, true, false, ◌&&◌, leb, ◌⊎◌, List, [], ◌∷◌, ◌++◌, map, length, get_or, take, drop, sym, refl, ap, ◌∙◌, subst, inl, inr, ⊎_elim, mul_assoc, arith}
 use Rattle.std.proofs.lemmas.Nat.{mul-le}
-use Rattle.std.proofs.lemmas.List.{drop_more, drop_all}
+use Rattle.std.proofs.lemmas.List.{length-append, length-map, length-take-le, drop_more, drop_all, get_or-take, get_or-map, get_or_append_left, get_or-append_right}
 use Rattle.std.proofs.lemmas.Bool.{cases_lt, cases_Bool, leb-true, lt-leb, and_parts, and_left, and_right}
 use Rattle.rows.proofs.Counts.{some_or_none}
 use Rattle.rows.specs.Values.{Values, Empty}
@@ -10,7 +10,7 @@ use Rattle.rules.specs.Rules.{Rule, In}
 use Rattle.tables.specs.declared.record.Axis.{Axis}
 use Rattle.tables.specs.declared.record.Cell.{Cell}
 use Rattle.tables.specs.declared.record.Cell.TheVariants.{Constant, Field}
-use Rattle.tables.specs.Reads.{room, positive, cell_fields}
+use Rattle.tables.specs.Reads.{room, positive, cell_fields, table_scope}
 
 module _ {X : Type 0} (made : X → Rule) where
   -- the rule made from what stands at the place
@@ -80,6 +80,40 @@ rest_constant cells i k h e = ap cell_fields (drop_more cells i (Constant 0) h) 
 -- nothing is left at the end
 pub rest_none : (cells : List Cell) (i : ℕ) → length cells ≤ i → cell_fields (drop i cells) ≡ []
 rest_none cells i h = ap cell_fields (drop_all i cells h)
+
+-- the field of an axis stands in the scope right after x
+pub place_axis : (x place count : ℕ) (axes : List Axis) (cells : List Cell) (d : Axis) → (place ≡ 0 → ⊥) → place ≤ count → count ≤ length axes
+    → (get_or axes (place - 1) d).field ≡ get_or (table_scope x (take count axes) cells) place 255
+place_axis x zero count axes cells d some early enough = absurd (some refl)
+place_axis x (suc p) count axes cells d some early enough =
+    let few = take count axes in
+    let long = length-take-le count axes enough in
+    let fields = length-map few (λ ax. ax.field) in
+    let before : suc p - 1 ≡ p = omega arith in
+    ap (λ k. (get_or axes k d).field) before
+    ∙ ap (λ ax. ax.field) (sym (get_or-take count axes p d (omega arith)))
+    ∙ sym (get_or-map (λ ax. ax.field) few p d 255 (omega arith))
+    ∙ sym (get_or_append_left (map (λ ax. ax.field) few) (cell_fields cells) 255 p (omega arith))
+
+-- and that of a cell after the axes
+pub place_cell : (x place count : ℕ) (axes : List Axis) (cells : List Cell) → count < place → count ≤ length axes
+    → get_or (cell_fields cells) (place - 1 - count) 255 ≡ get_or (table_scope x (take count axes) cells) place 255
+place_cell x zero count axes cells late enough = absurd (omega arith)
+place_cell x (suc p) count axes cells late enough =
+    let before : suc p - 1 ≡ p = omega arith in
+    ap (λ k. get_or (cell_fields cells) (k - count) 255) before
+    ∙ sym (get_or-append_right (map (λ ax. ax.field) (take count axes)) (cell_fields cells) count p 255
+    (length-map (take count axes) (λ ax. ax.field) ∙ length-take-le count axes enough) (omega arith))
+
+-- how many fields a scope has
+pub scope_long : (x count : ℕ) (axes : List Axis) (cells : List Cell) → count ≤ length axes → length (table_scope x (take count axes) cells) ≡ 1 + count + length (cell_fields cells)
+scope_long x count axes cells enough =
+    omega (
+      arith,
+      length-append (map (λ ax. ax.field) (take count axes)) (cell_fields cells),
+      length-map (take count axes) (λ ax. ax.field),
+      length-take-le count axes enough,
+    )
 
 -- a product other than 0 has no factor 0
 pub factor_some : (r e : ℕ) → (r * e ≡ 0 → ⊥) → 1 ≤ e

@@ -20,7 +20,7 @@ impl<'a, R: Row> Book<R> for Tables<'a> {
             return 255;
         }
         match self.table(k) {
-            Some(table) => table.scope().count().min(255) as u8,
+            Some(table) => table.field_total().min(255) as u8,
             None => 0,
         }
     }
@@ -30,7 +30,7 @@ impl<'a, R: Row> Book<R> for Tables<'a> {
             return 255;
         }
         match self.table(k) {
-            Some(table) => table.scope().nth(place).unwrap_or(255),
+            Some(table) => table.field(place).unwrap_or(255),
             None => 255,
         }
     }
